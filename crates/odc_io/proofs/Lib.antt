@@ -1,0 +1,3 @@
+pub mod FileLemmas
+pub mod GrownLemmas
+pub mod ListingLemmas
