@@ -1,0 +1,49 @@
+-- The frame of a procedure: its size, from the nodes of its body.
+use Rattle.std.specs.Prelude.{ℕ, ◌+◌, ◌*◌, ◌/◌, ◌^◌, ◌≤◌, List, [], ◌∷◌}
+use Rattle.odc_typed.specs.declared.tree.Builtin.{Builtin}
+use Rattle.odc_typed.specs.declared.tree.Builtin.TheVariants.{Println}
+use Rattle.odc_typed.specs.Tree.{Expr, const, builtin, Exprs, none, more, Stmt, eval, Stmts, finish, follow, Proc}
+
+-- the stack lies below this address, and the frame of `main` ends there
+abbrev pub stack_end : ℕ
+stack_end = 2 ^ 31
+
+-- a size, rounded up
+abbrev pub rounded : ℕ → ℕ
+rounded n = (n + 7) / 8 * 8
+
+abbrev pub rounded_16 : ℕ → ℕ
+rounded_16 n = (n + 15) / 16 * 16
+
+-- how many bytes a value of the expression has; a call without results has none
+abbrev pub builtin_size : Builtin → ℕ
+builtin_size Println = 0
+
+abbrev pub value_size : Expr → ℕ
+value_size (const at value) = 8
+value_size (builtin at which arguments) = builtin_size which
+
+-- What the nodes add: 128 for each, and twice the rounded size of each that is a value.
+abbrev mutual
+  pub expr_room : Expr → ℕ
+  expr_room (const at value) = 128 + 2 * 8
+  expr_room (builtin at which arguments) = 128 + 2 * rounded (builtin_size which) + exprs_room arguments
+
+  pub exprs_room : Exprs → ℕ
+  exprs_room none = 0
+  exprs_room (more e es) = expr_room e + exprs_room es
+
+abbrev pub stmt_room : Stmt → ℕ
+stmt_room (eval at value) = 128 + expr_room value
+
+abbrev pub stmts_room : Stmts → ℕ
+stmts_room finish = 0
+stmts_room (follow s ss) = stmt_room s + stmts_room ss
+
+abbrev pub frame : Proc → ℕ
+frame p = rounded_16 (256 + stmts_room p.body)
+
+-- no frame passes 16 MiB
+abbrev pub FramesFit : List Proc → Type 0
+FramesFit [] = Unit {0}
+FramesFit (p ∷ ps) = (frame p ≤ 2 ^ 24) × FramesFit ps

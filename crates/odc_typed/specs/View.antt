@@ -1,0 +1,44 @@
+-- What the definitions see of a Rust tree.
+use Rattle.std.specs.Prelude.{List, [], ◌∷◌, map}
+use Rattle.odc_text.specs.declared.place.Place.{Place}
+use Rattle.odc_typed.specs.declared.tree.TExpr.{TExpr}
+use Rattle.odc_typed.specs.declared.tree.ExprKind.{ExprKind, Row_of-TExpr, end_of-TExpr, more_of-TExpr}
+use Rattle.odc_typed.specs.declared.tree.ExprKind.TheVariants.{Const, Builtin'}
+use Rattle.odc_typed.specs.declared.tree.TStmt.{TStmt}
+use Rattle.odc_typed.specs.declared.tree.StmtKind.{StmtKind}
+use Rattle.odc_typed.specs.declared.tree.StmtKind.TheVariants.{Eval}
+use Rattle.odc_typed.specs.declared.tree.Procedure.{Procedure}
+use Rattle.odc_typed.specs.declared.tree.Program.{Program}
+use Rattle.odc_typed.specs.Tree.{Expr, const, builtin, Exprs, none, more, Stmt, eval, Stmts, finish, follow, Proc, Whole}
+
+abbrev mutual
+  pub expr_kind : ExprKind → Place → Expr
+  expr_kind (Const value) at = const at value
+  expr_kind (Builtin' which s r) at = builtin at which (row r)
+
+  pub row : {m : _} → Row_of-TExpr m → Exprs
+  row end_of-TExpr = none
+  row (more_of-TExpr at k r) = more (expr_kind k at) (row r)
+
+abbrev pub expr : TExpr → Expr
+expr e = expr_kind e.kind e.at
+
+abbrev pub exprs : List TExpr → Exprs
+exprs [] = none
+exprs (e ∷ es) = more (expr e) (exprs es)
+
+abbrev pub stmt_kind : StmtKind → Place → Stmt
+stmt_kind (Eval value) at = eval at (expr value)
+
+abbrev pub stmt : TStmt → Stmt
+stmt s = stmt_kind s.kind s.at
+
+abbrev pub stmts : List TStmt → Stmts
+stmts [] = finish
+stmts (s ∷ ss) = follow (stmt s) (stmts ss)
+
+abbrev pub proc : Procedure → Proc
+proc p = record { at = p.at; body = stmts p.body.items }
+
+abbrev pub program : Program → Whole
+program p = record { procedures = map proc p.procedures.items; main = p.main }
