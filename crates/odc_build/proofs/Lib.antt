@@ -1,0 +1,12 @@
+pub mod Flat
+pub mod Steps
+pub mod Numbers
+pub mod Signs
+pub mod Print
+pub mod Texts
+pub mod Lines
+pub mod Begin
+pub mod Whole
+pub mod Emitted
+pub mod Sizes
+pub mod Chosen
