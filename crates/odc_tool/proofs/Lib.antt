@@ -1,0 +1,14 @@
+pub mod DigitLemmas
+pub mod FormLemmas
+pub mod GatherLemmas
+pub mod GrammarLemmas
+pub mod NameLemmas
+pub mod OneVerdict
+pub mod OrderLemmas
+pub mod VerdictLemmas
+pub mod ViewLemmas
+pub mod WordLemmas
+pub mod TypingLemmas
+pub mod TellingLemmas
+pub mod NeverStrays
+pub mod Answering

@@ -1,0 +1,12 @@
+pub mod Errors
+pub mod Forms
+pub mod Gather
+pub mod Grammar
+pub mod Headline
+pub mod Loading
+pub mod Status
+pub mod Telling
+pub mod Typing
+pub mod Verdict
+pub mod View
+pub mod Words

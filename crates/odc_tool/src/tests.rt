@@ -1,0 +1,222 @@
+// What no clause says: that memory isn't claimed to be short while it is ample, and each command at
+// work, from its words to its bytes and its number.
+use crate::run::run_tool;
+use crate::status::{Status, exit_number};
+use odc_io::{MemFile, MemFolder, MemSink, MemSource};
+use std::alloc::{AllocError, Global};
+use std::test::Fail;
+
+/// A folder `d` whose only file is a `main.odin` of this text.
+fn folder_of(alloc: Global, text: &[u8], fail: Vec<u64>) -> Result<MemFolder, AllocError> {
+    let files = vec![in alloc;
+        MemFile {
+            path: String::from_str(alloc, "d/main.odin")?,
+            bytes: Vec::from_slice(alloc, text)?,
+        },
+    ]?;
+    Ok(MemFolder::new(files, fail))
+}
+
+fn words_of(alloc: Global, all: &[&str]) -> Result<Vec<String>, AllocError> {
+    let mut words = Vec::new(alloc);
+    for word in all {
+        words.push(String::from_str(alloc, word)?)?;
+    }
+    Ok(words)
+}
+
+/// Carries out a command on a folder and two outputs, with no input.
+fn carried_out(
+    alloc: Global,
+    all: &[&str],
+    folder: &mut MemFolder,
+    out: &mut MemSink,
+    err: &mut MemSink,
+) -> Result<Status, AllocError> {
+    let words = words_of(alloc, all)?;
+    let mut input = MemSource::new(Vec::new(alloc), Vec::new(alloc));
+    let mut image = Vec::new(alloc);
+    Ok(run_tool(alloc, &words, folder, &mut input, out, err, &mut image))
+}
+
+/// Whether the command gives exactly these outputs and this number, and writes no image.
+fn gives(
+    alloc: Global,
+    all: &[&str],
+    text: &[u8],
+    out: &[u8],
+    err: &[u8],
+    number: u8,
+) -> Result<bool, AllocError> {
+    let mut folder = folder_of(alloc, text, Vec::new(alloc))?;
+    let mut written = MemSink::new(alloc, 1000, Vec::new(alloc))?;
+    let mut told = MemSink::new(alloc, 1000, Vec::new(alloc))?;
+    let status = carried_out(alloc, all, &mut folder, &mut written, &mut told)?;
+    Ok(
+        written.written.as_slice() == out
+            && told.written.as_slice() == err
+            && exit_number(&status) == number,
+    )
+}
+
+/// Whether the text prints this, and ends with 0.
+fn prints(alloc: Global, text: &[u8], out: &[u8]) -> Result<bool, AllocError> {
+    gives(alloc, &["run", "d"], text, out, b"", 0)
+}
+
+/// Whether the text is refused as none of the profile.
+fn is_refused(alloc: Global, text: &[u8]) -> Result<bool, AllocError> {
+    let line = b"main.odin:1:1: N00 not in this profile\n";
+    gives(alloc, &["run", "d"], text, b"", line, 1)
+}
+
+#[test]
+fn a_number_is_printed(rt: HostRuntime) -> Result<(), Fail> {
+    let text = b"package main\nimport \"core:fmt\"\nmain :: proc() {\n\tfmt.println(7)\n}\n";
+    assert!(rt; prints(rt.alloc(), text, b"7\n")?);
+    let text =
+        b"package main\nimport \"core:fmt\"\nmain :: proc() {\n\tfmt.println(999999999)\n}\n";
+    assert!(rt; prints(rt.alloc(), text, b"999999999\n")?);
+    Ok(())
+}
+
+#[test]
+fn lines_are_printed_in_order(rt: HostRuntime) -> Result<(), Fail> {
+    let text =
+        b"package main\nimport \"core:fmt\"\nmain :: proc() {\n\tfmt.println(1, 22, 333)\n\tfmt.println(0)\n}\n";
+    assert!(rt; prints(rt.alloc(), text, b"1 22 333\n0\n")?);
+    Ok(())
+}
+
+#[test]
+fn an_empty_main_is_silent(rt: HostRuntime) -> Result<(), Fail> {
+    let text = b"package main\nimport \"core:fmt\"\nmain :: proc() {\n}\n";
+    assert!(rt; prints(rt.alloc(), text, b"")?);
+    Ok(())
+}
+
+#[test]
+fn other_words_are_no_command(rt: HostRuntime) -> Result<(), Fail> {
+    let alloc = rt.alloc();
+    let text = b"package main\nimport \"core:fmt\"\nmain :: proc() {\n}\n";
+    let missing = b"odin_rv: bad word \n";
+    assert!(rt; gives(alloc, &["run"], text, b"", missing, 2)?);
+    assert!(rt; gives(alloc, &["frob"], text, b"", b"odin_rv: bad word frob\n", 2)?);
+    assert!(rt;
+        gives(
+            alloc,
+            &["run", "d", "x"],
+            text,
+            b"",
+            b"odin_rv: bad word x\n",
+            2
+        )?
+    );
+    let mut folder = folder_of(alloc, text, Vec::new(alloc))?;
+    let mut out = MemSink::new(alloc, 99, Vec::new(alloc))?;
+    let mut err = MemSink::new(alloc, 99, Vec::new(alloc))?;
+    let status = carried_out(alloc, &["run"], &mut folder, &mut out, &mut err)?;
+    assert!(rt; matches!(status, Status::Usage { word: 1 }));
+    let status = carried_out(alloc, &["frob"], &mut folder, &mut out, &mut err)?;
+    assert!(rt; matches!(status, Status::Usage { word: 0 }));
+    let status = carried_out(alloc, &["run", "d", "x"], &mut folder, &mut out, &mut err)?;
+    assert!(rt; matches!(status, Status::Usage { word: 2 }));
+    Ok(())
+}
+
+#[test]
+fn texts_just_outside_the_grammar_are_refused(rt: HostRuntime) -> Result<(), Fail> {
+    let alloc = rt.alloc();
+    let text = b"package  main\nimport \"core:fmt\"\nmain :: proc() {\n}\n";
+    assert!(rt; is_refused(alloc, text)?);
+    let text = b"package main\r\nimport \"core:fmt\"\r\nmain :: proc() {\r\n}\r\n";
+    assert!(rt; is_refused(alloc, text)?);
+    let text = b"package main\nimport \"core:fmt\"\nmain :: proc() {\n}";
+    assert!(rt; is_refused(alloc, text)?);
+    let text =
+        b"package main\nimport \"core:fmt\"\nmain :: proc() {\n\tfmt.println(1000000000)\n}\n";
+    assert!(rt; is_refused(alloc, text)?);
+    let text = b"package main\nimport \"core:fmt\"\nmain :: proc() {\n\tfmt.println(07)\n}\n";
+    assert!(rt; is_refused(alloc, text)?);
+    let text = b"package main\nimport \"core:fmt\"\nmain :: proc() {\n\tfmt.print(7)\n}\n";
+    assert!(rt; is_refused(alloc, text)?);
+    let text = b"package main\nimport \"core:fmt\"\nmain :: proc() {\n\tfmt.println(\xff)\n}\n";
+    assert!(rt; is_refused(alloc, text)?);
+    Ok(())
+}
+
+#[test]
+fn a_folder_without_sources_is_refused(rt: HostRuntime) -> Result<(), Fail> {
+    let alloc = rt.alloc();
+    let text = b"package main\nimport \"core:fmt\"\nmain :: proc() {\n}\n";
+    let line = b"e:0:0: S01 no .odin file here\n";
+    assert!(rt; gives(alloc, &["run", "e"], text, b"", line, 1)?);
+    Ok(())
+}
+
+/// The list of one failing call.
+fn only(alloc: Global, call: u64) -> Result<Vec<u64>, AllocError> {
+    Ok(vec![in alloc; call]?)
+}
+
+/// Runs two lines on an output that fails at one call: the status, the output and the errors.
+fn with_failing_output(alloc: Global, call: u64) -> Result<(Status, MemSink, MemSink), AllocError> {
+    let text =
+        b"package main\nimport \"core:fmt\"\nmain :: proc() {\n\tfmt.println(1, 22, 333)\n\tfmt.println(0)\n}\n";
+    let mut folder = folder_of(alloc, text, Vec::new(alloc))?;
+    let mut out = MemSink::new(alloc, 99, only(alloc, call)?)?;
+    let mut err = MemSink::new(alloc, 99, Vec::new(alloc))?;
+    let status = carried_out(alloc, &["run", "d"], &mut folder, &mut out, &mut err)?;
+    Ok((status, out, err))
+}
+
+// Each of the four numbers is written with its separator by one call.
+#[test]
+fn a_failing_output_is_told_at_each_of_its_calls(rt: HostRuntime) -> Result<(), Fail> {
+    for call in 1..5u64 {
+        let (status, out, err) = with_failing_output(rt.alloc(), call)?;
+        assert!(rt; matches!(status, Status::WriteFault));
+        assert!(rt; b"1 22 333\n0\n".starts_with(out.written.as_slice()));
+        assert_eq!(rt; out.faults, 1);
+        assert_eq!(rt;
+            err.written.as_slice(),
+            b"odin_rv: write fault\n".as_slice()
+        );
+    }
+    let (status, out, err) = with_failing_output(rt.alloc(), 5)?;
+    assert!(rt; matches!(status, Status::Exited { code: 0 }));
+    assert_eq!(rt; out.written.as_slice(), b"1 22 333\n0\n".as_slice());
+    assert!(rt; err.written.is_empty());
+    Ok(())
+}
+
+#[test]
+fn a_failing_error_output_is_told_by_the_number(rt: HostRuntime) -> Result<(), Fail> {
+    let alloc = rt.alloc();
+    let text = b"package main\nimport \"core:fmt\"\nmain :: proc() {\n\tfmt.print(7)\n}\n";
+    let mut folder = folder_of(alloc, text, Vec::new(alloc))?;
+    let mut out = MemSink::new(alloc, 99, Vec::new(alloc))?;
+    let mut err = MemSink::new(alloc, 99, only(alloc, 1)?)?;
+    let status = carried_out(alloc, &["run", "d"], &mut folder, &mut out, &mut err)?;
+    assert!(rt; matches!(status, Status::WriteFault));
+    Ok(())
+}
+
+#[test]
+fn a_failing_folder_is_told(rt: HostRuntime) -> Result<(), Fail> {
+    let alloc = rt.alloc();
+    let text = b"package main\nimport \"core:fmt\"\nmain :: proc() {\n\tfmt.println(7)\n}\n";
+    for call in 1..3u64 {
+        let mut folder = folder_of(alloc, text, only(alloc, call)?)?;
+        let mut out = MemSink::new(alloc, 99, Vec::new(alloc))?;
+        let mut err = MemSink::new(alloc, 99, Vec::new(alloc))?;
+        let status = carried_out(alloc, &["run", "d"], &mut folder, &mut out, &mut err)?;
+        assert!(rt; matches!(status, Status::FolderFault));
+        assert!(rt; out.written.is_empty());
+        assert_eq!(rt;
+            err.written.as_slice(),
+            b"odin_rv: folder fault\n".as_slice()
+        );
+    }
+    Ok(())
+}
