@@ -1,0 +1,10 @@
+pub mod CharacterLemmas
+pub mod EscapeLemmas
+pub mod UnitLemmas
+pub mod StretchLemmas
+pub mod CommentLemmas
+pub mod NumberFronts
+pub mod TableLemmas
+pub mod PieceLemmas
+pub mod StateLemmas
+pub mod LexLemmas

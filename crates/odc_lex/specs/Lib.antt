@@ -1,0 +1,9 @@
+pub mod Character
+pub mod Comment
+pub mod Escape
+pub mod Lex
+pub mod Number
+pub mod Piece
+pub mod State
+pub mod Table
+pub mod Unit
