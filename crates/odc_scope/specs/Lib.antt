@@ -1,0 +1,3 @@
+pub mod Scopes
+pub mod Refusals
+pub mod Stack
