@@ -1,0 +1,6 @@
+pub mod Widths
+pub mod Nodes
+pub mod Identity
+pub mod Parts
+pub mod Layout
+pub mod Clipped

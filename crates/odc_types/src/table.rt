@@ -1,0 +1,162 @@
+ghost use Rattle.std.specs.Prelude.{◌≡◌, ℕ, [], ◌∷◌, ◌++◌, ◌+◌, ◌<◌, ◌≤◌, ◌^◌, ◌==◌, ◌↔◌, length, slice_get, slice_set, Some, IfSome, IfNone, IfOk, OnOk, OnErr, IsTrue};
+ghost use Rattle.odc_types.specs.Nodes.{node, nodes};
+ghost use Rattle.odc_types.specs.Parts.{HasPartsBelow, IsUndefined};
+ghost use Rattle.odc_types.specs.Identity.{identity_of};
+ghost use Rattle.odc_types.specs.Layout.{layout, size as bytes_of, HasSize, size_of, align_of, field_count, offset_of, layout_of};
+ghost use Rattle.odc_types.specs.Clipped.{IsMeasured};
+
+use crate::identity::same_within;
+use crate::measure::{Extent, measured, offset_within};
+use crate::ty::{Ty, TyId};
+use std::alloc::{AllocError, Global};
+use std::marker::Model;
+
+/// Types by number. Each has its parts by number, which lead to types of the same table.
+#[derive(Drop)]
+pub struct TypeTable {
+    types: Vec<Ty>,
+}
+
+impl Model for TypeTable {
+    ghost use Rattle.std.specs.Prelude.{List};
+    ghost use Rattle.odc_types.specs.Nodes.{Node, nodes};
+    ghost use Rattle.odc_types.specs.Identity.{IsWholeTable};
+
+    ghost Value = { List Node };
+
+    ghost view = { λ t. nodes t.types.items };
+
+    ghost invariant = { λ t. IsWholeTable (nodes t.types.items) };
+}
+
+impl TypeTable {
+    /// A table without a type.
+    pub fn new(alloc: Global) -> Result<TypeTable, AllocError>
+        ensures { IfOk result (λ t. t ≡ []) }
+    {
+        Ok(TypeTable {
+            types: Vec::new(alloc),
+        })
+    }
+
+    /// Adds a type. Earlier types keep their numbers.
+    pub fn add(&mut self, t: Ty) -> Result<TyId, AllocError>
+        requires { HasPartsBelow (length self.old) (node t) }
+        ensures number { IfOk result (λ id. id.index ≡ length self.old) }
+        ensures ok { OnOk result (self.new ≡ self.old ++ node t ∷ []) }
+        ensures len { OnOk result (length self.new ≡ length self.old + 1) }
+        ensures identities { (u : ℕ) → u < length self.old → identity_of self.new u ≡ identity_of self.old u }
+        ensures layouts { (u : ℕ) → HasSize self.old u → layout_of self.new u ≡ layout_of self.old u }
+        ensures err { OnErr result (self.new ≡ self.old) }
+    {
+        let Ok(index) = u32::try_from(self.types.len()) else {
+            return Err(AllocError);
+        };
+        self.types.push(t)?;
+        Ok(TyId { index })
+    }
+
+    /// Gives a struct, union, enum or distinct type, which was added without its parts, these parts. `parts` is the
+    /// same type with them.
+    pub fn define(&mut self, t: TyId, parts: Ty) -> Result<(), AllocError>
+        requires below { HasPartsBelow (length self.old) (node parts) }
+        requires undefined { IsUndefined self.old (slice_get self.old t.index) (node parts) }
+        ensures ok { OnOk result (self.new ≡ slice_set self.old t.index (node parts)) }
+        ensures len { length self.new ≡ length self.old }
+        ensures identities { (u : ℕ) → u < length self.old → identity_of self.new u ≡ identity_of self.old u }
+        ensures layouts { (u : ℕ) → HasSize self.old u → layout_of self.new u ≡ layout_of self.old u }
+        ensures err { OnErr result (self.new ≡ self.old) }
+    {
+        self.types[t.index as usize] = parts;
+        Ok(())
+    }
+
+    /// The number of types.
+    pub fn len(&self) -> usize
+        ensures { result ≡ length self.now }
+    {
+        self.types.len()
+    }
+
+    /// Whether there is no type.
+    pub fn is_empty(&self) -> bool
+        ensures { result ≡ (length self.now == 0) }
+    {
+        self.types.is_empty()
+    }
+
+    /// The type of a number.
+    pub fn get(&self, t: TyId) -> &Ty
+        requires { t.index < length self.now }
+        ensures { slice_get self.now t.index ≡ Some (node result.now) }
+    {
+        &self.types[t.index as usize]
+    }
+
+    /// The size of a type in bytes, if it has one and this is below 2 to 64.
+    pub fn checked_size(&self, t: TyId) -> Option<u64>
+        ensures some { IfSome result (λ n. HasSize self.now t.index × (size_of self.now t.index ≡ n)) }
+        ensures none { IfNone result (HasSize self.now t.index → 2 ^ 64 ≤ size_of self.now t.index) }
+        // However deep the type is unfolded.
+        ensures none_deeper { IfNone result ((k : ℕ) (l : _) → layout self.now k t.index ≡ Some l → 2 ^ 64 ≤ bytes_of l) }
+    {
+        match measured(self.types.as_slice(), self.types.len(), t) {
+            Some(extent) => extent.size,
+            None => None,
+        }
+    }
+
+    /// The size of a type in bytes.
+    pub fn size(&self, t: TyId) -> u64
+        requires sized { HasSize self.now t.index }
+        requires below { size_of self.now t.index < 2 ^ 64 }
+        ensures { result ≡ size_of self.now t.index }
+    {
+        match self.extent(t).size {
+            Some(size) => size,
+            None => unreachable!(),
+        }
+    }
+
+    /// The alignment of a type in bytes.
+    pub fn align(&self, t: TyId) -> u64
+        requires sized { HasSize self.now t.index }
+        requires below { size_of self.now t.index < 2 ^ 64 }
+        ensures { result ≡ align_of self.now t.index }
+    {
+        self.extent(t).align
+    }
+
+    /// Where a field of a struct begins, in bytes from the struct's beginning; or a column of a fixed `#soa` container.
+    pub fn offset(&self, t: TyId, field: u32) -> u64
+        requires sized { HasSize self.now t.index }
+        requires below { size_of self.now t.index < 2 ^ 64 }
+        requires within { field < field_count self.now t.index }
+        ensures { result ≡ offset_of self.now t.index field }
+    {
+        match offset_within(self.types.as_slice(), self.types.len(), t, field as usize) {
+            Some(offset) => offset,
+            None => unreachable!(),
+        }
+    }
+
+    /// Whether two types are one.
+    pub fn same(&self, a: TyId, b: TyId) -> bool
+        requires first { a.index < length self.now }
+        requires second { b.index < length self.now }
+        ensures { IsTrue result ↔ (identity_of self.now a.index ≡ identity_of self.now b.index) }
+    {
+        same_within(self.types.as_slice(), self.types.len(), a, b)
+    }
+
+    /// The extent of a type that has a size.
+    fn extent(&self, t: TyId) -> Extent
+        requires { HasSize self.now t.index }
+        ensures { IsMeasured (Some result) (layout_of self.now t.index) }
+    {
+        match measured(self.types.as_slice(), self.types.len(), t) {
+            Some(extent) => extent,
+            None => unreachable!(),
+        }
+    }
+}
