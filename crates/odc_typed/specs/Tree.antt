@@ -2,11 +2,15 @@
 use Rattle.std.specs.Prelude.{ℕ, List}
 use Rattle.odc_text.specs.declared.place.Place.{Place}
 use Rattle.odc_typed.specs.declared.tree.Constant.{Constant}
+use Rattle.odc_typed.specs.declared.tree.BinaryOp.{BinaryOp}
 use Rattle.odc_typed.specs.declared.tree.Builtin.{Builtin}
+use Rattle.odc_typed.specs.declared.tree.Local.{Local}
 
 mutual
   pub data Expr : Type 0 where
     const : (at : Place) (value : Constant) → Expr
+    local : (at : Place) (x : ℕ) → Expr
+    binary : (at : Place) (op : BinaryOp) (left right : Expr) → Expr
     builtin : (at : Place) (which : Builtin) (arguments : Exprs) → Expr
 
   pub data Exprs : Type 0 where
@@ -16,6 +20,8 @@ mutual
 mutual
   pub data Stmt : Type 0 where
     eval : (at : Place) (value : Expr) → Stmt
+    declare : (at : Place) (x : ℕ) (value : Expr) → Stmt
+    assign : (at : Place) (target value : Expr) → Stmt
 
   pub data Stmts : Type 0 where
     finish : Stmts
@@ -23,6 +29,7 @@ mutual
 
 pub record Proc : Type 0 where
   pub at : Place
+  pub locals : List Local
   pub body : Stmts
 
 pub record Whole : Type 0 where

@@ -17,6 +17,14 @@ pub enum Builtin {
     Println,
 }
 
+/// An operation on two integers; its result wraps.
+#[derive(Clone, Copy)]
+pub enum BinaryOp {
+    Add,
+    Subtract,
+    Multiply,
+}
+
 /// An expression with its place.
 #[cycle(exprs)]
 #[derive(Drop)]
@@ -30,6 +38,10 @@ pub struct TExpr {
 pub enum ExprKind {
     /// A folded constant.
     Const(Constant),
+    /// A variable of the procedure, by its position in `locals`.
+    Local(u32),
+    /// Two operands, the left one first; the place is that of the operator.
+    Binary(BinaryOp, Box<TExpr>, Box<TExpr>),
     /// A call of a built-in with its arguments.
     Builtin(Builtin, Vec<TExpr>),
 }
@@ -45,12 +57,23 @@ pub struct TStmt {
 pub enum StmtKind {
     /// A call as a statement.
     Eval(TExpr),
+    /// A variable begins with a value.
+    Declare(u32, TExpr),
+    /// A place, and the value that it gets.
+    Assign(TExpr, TExpr),
 }
 
-/// A procedure; its place is its `proc` word.
+/// A variable of a procedure, with the place of its name.
+#[derive(Clone, Copy)]
+pub struct Local {
+    pub at: Place,
+}
+
+/// A procedure; its place is its `proc` word. Its variables are listed in the order of the text.
 #[derive(Drop)]
 pub struct Procedure {
     pub at: Place,
+    pub locals: Vec<Local>,
     pub body: Vec<TStmt>,
 }
 
