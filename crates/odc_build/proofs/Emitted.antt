@@ -1,19 +1,19 @@
 -- The lists of instructions as the emitting functions append them.
-use Rattle.std.proofs.Common.{◌≡◌, ℕ, suc, ◌+◌, ◌-◌, ◌*◌, ◌/◌, ◌%◌, ◌^◌, ◌<◌, ◌≤◌, Bool, true, false, cond, List, [], ◌∷◌, ◌++◌, arith, ap, ◌∙◌, sym, refl, subst, append_assoc, length, drop, get_or, take, length-drop}
+use Rattle.std.proofs.Common.{◌≡◌, ℕ, suc, ◌+◌, ◌-◌, ◌/◌, ◌%◌, ◌^◌, ◌<◌, ◌≤◌, Bool, true, false, cond, List, [], ◌∷◌, ◌++◌, arith, ap, ◌∙◌, sym, refl, subst, append_assoc, length, drop, get_or, take, length-drop}
 use Rattle.std.specs.Prelude.{ℤ, pos, negsuc, nat_lt, Some}
 use Rattle.std.specs.Int.{w32, cast_signed, to_le_bytes}
 use Rattle.std.proofs.lemmas.Bool.Decides.{nat_tests}
 use Rattle.rv_table.specs.declared.inst.Inst.{Inst}
 use Rattle.rv_table.specs.declared.inst.Inst.TheVariants.{Addi, Slli, Jalr}
 use Rattle.std.proofs.Math.Seq.{drop-cons, drop-length}
+use Rattle.odc_text.specs.declared.place.Place.{Place}
 use Rattle.odc_typed.specs.declared.tree.TExpr.{TExpr}
 use Rattle.odc_typed.specs.declared.tree.TStmt.{TStmt}
 use Rattle.odc_typed.specs.View.{expr, exprs, stmt, stmts}
-use Rattle.odc_typed.specs.Well.{IsInt, AreInts, AreTaken, IsWellStmt, AreWell}
 use Rattle.odc_typed.specs.declared.tree.Builtin.{Builtin as Which}
 use Rattle.odc_typed.specs.declared.tree.Builtin.TheVariants.{Println}
-use Rattle.odc_typed.specs.Tree.{Expr, const, builtin}
-use Rattle.odc_typed.specs.Frame.{rounded, builtin_size, expr_room, exprs_room, stmt_room, stmts_room}
+use Rattle.odc_typed.specs.Tree.{Exprs, builtin}
+use Rattle.odc_typed.specs.Frame.{expr_room, exprs_room, stmt_room, stmts_room}
 use Rattle.rv_table.specs.Table.{decoded}
 use Rattle.odc_build.specs.Encoded.{Mean, IsEncoded}
 use Rattle.std.proofs.lemmas.List.{take_more}
@@ -79,9 +79,6 @@ arguments_more xs i x all none one two three sep h e is told f g k =
     ∙ ap (λ (ys : List TExpr). none ++ arguments_code (exprs ys)) (sym (drop_here xs i x h e))
     ∙ told
 
-pub arguments_first : (xs : List TExpr) (i : ℕ) (x : TExpr) → i < length xs → x ≡ get_or xs i x → AreInts (exprs (drop i xs)) → IsInt (expr x) × AreInts (exprs (drop (i + 1) xs))
-arguments_first xs i x h e ints = let P : List TExpr → Type 0 = λ ys. AreInts (exprs ys) in subst P (drop_here xs i x h e) ints
-
 pub line_some : (ys : List TExpr) → 0 < length ys → arguments_code (exprs ys) ≡ line_code (exprs ys)
 line_some [] h = absurd (omega arith)
 line_some (y ∷ ys) h = refl
@@ -94,9 +91,6 @@ stmts_more xs i x all none one h e told f =
     ∙ append_assoc none (stmt_code (stmt x)) (stmts_code (stmts (drop (i + 1) xs)))
     ∙ ap (λ (ys : List TStmt). none ++ stmts_code (stmts ys)) (sym (drop_here xs i x h e))
     ∙ told
-
-pub stmts_first : (xs : List TStmt) (i : ℕ) (x : TStmt) → i < length xs → x ≡ get_or xs i x → AreWell (stmts (drop i xs)) → IsWellStmt (stmt x) × AreWell (stmts (drop (i + 1) xs))
-stmts_first xs i x h e well = let P : List TStmt → Type 0 = λ ys. AreWell (stmts ys) in subst P (drop_here xs i x h e) well
 
 -- ---- the bytes of instructions
 
@@ -119,22 +113,18 @@ encoded_more text text' code i w d h e small means is =
 
 -- ---- the frame
 
-int_room : (e : Expr) → IsInt e → expr_room e ≡ 144
-int_room (const at value) h = refl
-int_room (builtin at which es) h = absurd h
+-- a call of today has no value
+pub builtin_room : (at : Place) (which : Which) (es : Exprs) → expr_room (builtin at which es) ≡ 128 + exprs_room es
+builtin_room at Println es = refl
 
-ints_room : (xs : List TExpr) → AreInts (exprs xs) → exprs_room (exprs xs) ≡ 144 * length xs
-ints_room [] h = refl
-ints_room (x ∷ xs) h =
-    let rest : exprs_room (exprs xs) ≡ 144 * length xs = ints_room xs h.1 in
-    let first : expr_room (expr x) ≡ 144 = int_room (expr x) h.0 in
-    omega (arith, first, rest)
+pub room_here : (xs : List TExpr) (i : ℕ) (x : TExpr) → i < length xs → x ≡ get_or xs i x → exprs_room (exprs (drop i xs)) ≡ expr_room (expr x) + exprs_room (exprs (drop (i + 1) xs))
+room_here xs i x h e = ap (λ (ys : List TExpr). exprs_room (exprs ys)) (drop_here xs i x h e)
 
-pub taken_room : (which : Which) (xs : List TExpr) → AreTaken which (exprs xs) → exprs_room (exprs xs) ≡ 144 * length xs
-taken_room Println xs h = ints_room xs h
-
-pub builtin_room_is : (which : Which) (xs : List TExpr) → AreTaken which (exprs xs) → 128 + 144 * length xs ≡ 128 + 2 * rounded (builtin_size which) + exprs_room (exprs xs)
-builtin_room_is Println xs h = let rest : exprs_room (exprs xs) ≡ 144 * length xs = ints_room xs h in omega arith
+pub rooms_more : (xs : List TExpr) (i : ℕ) (x : TExpr) (total more all : ℕ) → i < length xs → x ≡ get_or xs i x →
+    total + exprs_room (exprs (drop i xs)) ≡ all → more ≡ expr_room (expr x) → total + more + exprs_room (exprs (drop (i + 1) xs)) ≡ all
+rooms_more xs i x total more all h e told f =
+    let here : exprs_room (exprs (drop i xs)) ≡ expr_room (expr x) + exprs_room (exprs (drop (i + 1) xs)) = room_here xs i x h e in
+    omega arith
 
 pub room_more : (xs : List TStmt) (i : ℕ) (x : TStmt) (total more all : ℕ) → i < length xs → x ≡ get_or xs i x →
     total + stmts_room (stmts (drop i xs)) ≡ all → more ≡ stmt_room (stmt x) → total + more + stmts_room (stmts (drop (i + 1) xs)) ≡ all

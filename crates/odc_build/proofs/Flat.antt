@@ -8,14 +8,15 @@ use Rattle.std.proofs.Math.Nat.{mod-eq_of_lt}
 use Rattle.odc_text.specs.Run.{exited, out, err, Log}
 use Rattle.odc_text.specs.Steps.{After, on, over, Stand, stood_after, stood}
 use Rattle.rv_table.specs.Bytes.{run, written}
-use Rattle.rv_table.specs.State.{State, Step, register, with_register, next_pc, effect_of, applied, executed, put, kept, branched, loaded, store_bytes, fetched, jumps_by_x5, listed, aligned}
+use Rattle.rv_table.specs.State.{State, Step, register, with_register, next_pc, effect_of, applied, executed, put, put_loaded, kept, branched, loaded, load_size, load_value, store_bytes, fetched, jumps_by_x5, listed, aligned}
 use Rattle.rv_table.specs.Run.{Config, act, ran, answer, written_bytes, system_called, read_called, write_called, wrote, refused, trap}
 use Rattle.rv_table.specs.Areas.{Shows, Shape, shape, has, AreApart, Filled}
 use Rattle.rv_table.specs.Standing.{StandsAt, StandFrom}
 use Rattle.rv_table.specs.declared.inst.Inst.{Inst}
 use Rattle.rv_table.specs.declared.effect.Access.TheVariants.{Read, Write, Execute}
 use Rattle.rv_table.specs.declared.effect.Effect.{Effect}
-use Rattle.rv_table.specs.declared.effect.Effect.TheVariants.{Put, Store, Branch, Link}
+use Rattle.rv_table.specs.declared.effect.Effect.TheVariants.{Put, Load, Store, Branch, Link}
+use Rattle.rv_table.specs.declared.effect.LoadKind.{LoadKind}
 use Rattle.rv_table.specs.declared.effect.StoreKind.{StoreKind}
 use Rattle.rv_table.specs.declared.effect.Event.TheVariants.{Next, Trap}
 use Rattle.rv_table.specs.declared.inst.Inst.TheVariants.{Ecall}
@@ -242,6 +243,31 @@ module _ (code : List Inst) (given : List ℕ) (short : 4 * length code ≤ 0x4f
         (record {
           pc = next_is c place a inst at is;
           regs = (let r = regs_put c.state a.regs rd v small is.regs in record { count = r.count; each = r.each });
+          shows = is.shows;
+          shapes = is.shapes;
+          text = is.text;
+          log = is.log;
+          input = is.input;
+          taken = is.taken;
+        });
+  }
+
+  -- a load from the stack
+  pub loads : (place : ℕ) (a : Flat) (inst : Inst) (rd address value : ℕ) (kind : LoadKind) → At code place inst → jumps_by_x5 inst ≡ false → rd < 32 →
+      ((s : State) → Regs s a.regs → effect_of inst s ≡ Load rd address kind) → load_value kind (run a.mem address (load_size kind)) ≡ value →
+      0x7800_0000 ≤ address → address + load_size kind ≤ 2 ^ 31 → Reaches place a 1 (place + 4) (record a { regs = set a.regs rd value })
+  unfolding executed
+  loads place a inst rd address value kind at plain small effect e low high = record {
+    by = λ c is.
+        let held : has Read address (load_size kind) (map shape c.state.areas) ≡ true =
+        ap (has Read address (load_size kind)) is.shapes ∙ has_stack_read (4 * length code) address (load_size kind) low high in
+        let read : loaded c.state.areas Read address (load_size kind) ≡ Some (run a.mem address (load_size kind)) =
+        loaded_shown c.state.areas a.mem Read address (load_size kind) is.shows held in
+        goes place (place + 4) a (record a { regs = set a.regs rd value }) inst c (put c.state rd value).1 at plain is
+        (ap (λ (f : Effect). applied f c.state) (effect c.state is.regs) ∙ ap (put_loaded c.state rd kind) read ∙ ap (put c.state rd) e)
+        (record {
+          pc = next_is c place a inst at is;
+          regs = (let r = regs_put c.state a.regs rd value small is.regs in record { count = r.count; each = r.each });
           shows = is.shows;
           shapes = is.shapes;
           text = is.text;

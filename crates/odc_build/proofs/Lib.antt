@@ -4,6 +4,9 @@ pub mod Numbers
 pub mod Signs
 pub mod Print
 pub mod Texts
+pub mod Ties
+pub mod Declared
+pub mod Values
 pub mod Lines
 pub mod Begin
 pub mod Whole

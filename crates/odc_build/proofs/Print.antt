@@ -25,6 +25,7 @@ pub record InHand (low : ℕ) (a b : Flat) (text : List ℕ) : Type 0 where
   pub back : b.regs 1 ≡ a.regs 1
   pub frame : b.regs 2 ≡ low
   pub base : b.regs 9 ≡ a.regs 9
+  pub temps : b.regs 8 ≡ a.regs 8
   pub value : b.regs 10 ≡ a.regs 10
   pub log : b.log ≡ a.log
   pub others : (x : ℕ) → (x < low) ⊎ (low + 32 ≤ x) → b.mem x ≡ a.mem x
@@ -33,6 +34,7 @@ pub record InHand (low : ℕ) (a b : Flat) (text : List ℕ) : Type 0 where
 pub record Printed (low : ℕ) (a b : Flat) (text : List ℕ) : Type 0 where
   pub frame : b.regs 2 ≡ low
   pub base : b.regs 9 ≡ a.regs 9
+  pub temps : b.regs 8 ≡ a.regs 8
   pub log : b.log ≡ a.log ++ map out text
   pub others : (x : ℕ) → (x < low) ⊎ (low + 32 ≤ x) → b.mem x ≡ a.mem x
 
@@ -43,9 +45,9 @@ pub record IsLow (low : ℕ) : Type 0 where
 
 -- one more byte before those in hand
 byte_before : (low : ℕ) (a b : Flat) (text : List ℕ) (c : Flat) (p v : ℕ) → IsLow low → InHand low a b text → length text + 1 ≤ 32 →
-    p + 1 ≡ b.regs 6 → c.regs 6 ≡ p → c.regs 1 ≡ b.regs 1 → c.regs 2 ≡ b.regs 2 → c.regs 9 ≡ b.regs 9 → c.regs 10 ≡ b.regs 10 → c.log ≡ b.log →
+    p + 1 ≡ b.regs 6 → c.regs 6 ≡ p → c.regs 1 ≡ b.regs 1 → c.regs 2 ≡ b.regs 2 → c.regs 9 ≡ b.regs 9 → c.regs 8 ≡ b.regs 8 → c.regs 10 ≡ b.regs 10 → c.log ≡ b.log →
     ((x : ℕ) → c.mem x ≡ written b.mem p (v ∷ []) x) → InHand low a c (v ∷ text)
-byte_before low a b text c p v is h room pointer at one two nine ten log mem = record {
+byte_before low a b text c p v is h room pointer at one two nine eight ten log mem = record {
   pointer = omega (arith, at, h.pointer);
   bytes = (
       let start : c.regs 6 + 1 ≡ b.regs 6 = omega (arith, at) in
@@ -59,6 +61,7 @@ byte_before low a b text c p v is h room pointer at one two nine ten log mem = r
   back = one ∙ h.back;
   frame = two ∙ h.frame;
   base = nine ∙ h.base;
+  temps = eight ∙ h.temps;
   value = ten ∙ h.value;
   log = log ∙ h.log;
   others = λ x away.
@@ -133,7 +136,7 @@ module _ (rest : List Inst) (given : List ℕ) (short : 4 * length (print_code +
         next = b5;
         within = step_on code given short _ _ _ _ _ _ _ s1 (step_on code given short _ _ _ _ _ _ _ s2 (step_on code given short _ _ _ _ _ _ _ s3
             (step_on code given short _ _ _ _ _ _ _ s4 (step_on code given short _ _ _ _ _ _ _ s5 (no_steps code given short 65580 b5)))));
-        holds = byte_before low a b text b5 p (48 + m % 10) is h room before refl refl refl refl refl refl (λ x. refl);
+        holds = byte_before low a b text b5 p (48 + m % 10) is h room before refl refl refl refl refl refl refl (λ x. refl);
         left = refl;
         ten = ten;
       }
@@ -245,6 +248,7 @@ module _ (rest : List Inst) (given : List ℕ) (short : 4 * length (print_code +
         printed = record {
           frame = h.frame;
           base = h.base;
+          temps = h.temps;
           log = ap (λ (l : Log ℕ ℕ). l ++ map out (run b.mem p n)) h.log ∙ ap (λ (bs : List ℕ). a.log ++ map out bs) h.bytes;
           others = h.others;
         };
@@ -283,13 +287,14 @@ module _ (rest : List Inst) (given : List ℕ) (short : 4 * length (print_code +
         step_on code given short _ _ _ _ _ _ _ s1 (step_on code given short _ _ _ _ _ _ _ s2 (step_on code given short _ _ _ _ _ _ _ s3 (no_steps code given short 65548 a3)))
 
     -- with the separator in hand, whatever stands in the registers that the routine uses
-    in_hand : (g : ℕ → ℕ) → g 6 ≡ low + 31 → g 1 ≡ a.regs 1 → g 2 ≡ a.regs 2 → g 9 ≡ a.regs 9 → g 10 ≡ a.regs 10 → InHand low a (record a2 { regs = g }) (sep ∷ [])
-    in_hand g six one two nine ten = record {
+    in_hand : (g : ℕ → ℕ) → g 6 ≡ low + 31 → g 1 ≡ a.regs 1 → g 2 ≡ a.regs 2 → g 9 ≡ a.regs 9 → g 8 ≡ a.regs 8 → g 10 ≡ a.regs 10 → InHand low a (record a2 { regs = g }) (sep ∷ [])
+    in_hand g six one two nine eight ten = record {
       pointer = omega (arith, six);
       bytes = ap (λ (x : ℕ). run a2.mem x 1) six ∙ run_written a.mem (low + 31) (sep ∷ []);
       back = one;
       frame = two ∙ frame;
       base = nine;
+      temps = eight;
       value = ten;
       log = refl;
       others = λ x away. written_out a.mem (low + 31) (sep ∷ []) x (elim away [ inl l ↦ inl (omega arith) | inr r ↦ inr (omega arith) ]);
@@ -309,7 +314,7 @@ module _ (rest : List Inst) (given : List ℕ) (short : 4 * length (print_code +
           next = a4;
           within = within_more code given short (3 + 2) 6 65536 a 65560 a4 (lit≤ tt) (within_on code given short 3 65536 a 65548 a3 2 65560 a4 start
               (step_on code given short _ _ _ _ _ _ _ s4 (step_on code given short _ _ _ _ _ _ _ s5 (no_steps code given short 65560 a4))));
-          holds = in_hand a4.regs refl refl refl refl refl;
+          holds = in_hand a4.regs refl refl refl refl refl refl;
           seven = refl;
           ten = refl;
         }
@@ -329,7 +334,7 @@ module _ (rest : List Inst) (given : List ℕ) (short : 4 * length (print_code +
           next = a5;
           within = within_on code given short 3 65536 a 65548 a3 3 65560 a5 start
               (step_on code given short _ _ _ _ _ _ _ s4 (step_on code given short _ _ _ _ _ _ _ s5 (step_on code given short _ _ _ _ _ _ _ s6 (no_steps code given short 65560 a5))));
-          holds = in_hand a5.regs refl refl refl refl refl;
+          holds = in_hand a5.regs refl refl refl refl refl refl;
           seven = refl;
           ten = refl;
         }
@@ -340,7 +345,7 @@ module _ (rest : List Inst) (given : List ℕ) (short : 4 * length (print_code +
         branches_ge code given short 65584 b 10 0 (pos 16) 65600 taken (record { position = 12; place = refl; here = refl }) (lit< tt) (lit< tt) refl refl
         (ap (λ (x : ℕ). not (signed_below x 0)) (h.value ∙ number) ∙ e)
 
-    pub print_low : (back : ℕ) → a.regs 1 ≡ back → back % 4 ≡ 0 → back < 2 ^ 32 → w < 2 ^ 63 → Ended low (20 + 6 * length (decimal w)) 65536 back a a (decimal w ++ (sep ∷ []))
+    pub print_low : (back : ℕ) → a.regs 1 ≡ back → back % 4 ≡ 0 → back < 2 ^ 32 → w < 2 ^ 63 → Ended low (18 + 6 * length (decimal w)) 65536 back a a (decimal w ++ (sep ∷ []))
     print_low back from even near small =
         let digits_fit : length (decimal w) ≤ 20 = length-decimal-le 20 w (lit< tt) (omega arith) word in
         let b : Begun low a sep w = begin_low small in
@@ -351,7 +356,7 @@ module _ (rest : List Inst) (given : List ℕ) (short : 4 * length (print_code +
         let f : Ended low 7 65600 back a l.next text = finish low back a l.next text is l.holds (omega (arith, count)) (omega (arith, count)) from even near in
         record {
           next = f.next;
-          within = within_more code given short (6 + (6 * length (decimal w) + (1 + 7))) (20 + 6 * length (decimal w)) 65536 a back f.next (omega arith)
+          within = within_more code given short (6 + (6 * length (decimal w) + (1 + 7))) (18 + 6 * length (decimal w)) 65536 a back f.next (omega arith)
               (within_on code given short 6 65536 a 65560 b.next (6 * length (decimal w) + (1 + 7)) back f.next b.within
               (within_on code given short (6 * length (decimal w)) 65560 b.next 65584 l.next (1 + 7) back f.next l.within
               (step_on code given short 65584 l.next 65600 l.next 7 back f.next s f.within)));
@@ -359,7 +364,7 @@ module _ (rest : List Inst) (given : List ℕ) (short : 4 * length (print_code +
         }
 
     pub print_high : (back : ℕ) → a.regs 1 ≡ back → back % 4 ≡ 0 → back < 2 ^ 32 → 2 ^ 63 ≤ w →
-        Ended low (20 + 6 * length (decimal (2 ^ 64 - 1 - w + 1))) 65536 back a a (45 ∷ (decimal (2 ^ 64 - 1 - w + 1) ++ (sep ∷ [])))
+        Ended low (18 + 6 * length (decimal (2 ^ 64 - 1 - w + 1))) 65536 back a a (45 ∷ (decimal (2 ^ 64 - 1 - w + 1) ++ (sep ∷ [])))
     print_high back from even near big =
         let m : ℕ = 2 ^ 64 - 1 - w + 1 in
         let fits : m < 2 ^ 64 = omega arith in
@@ -381,11 +386,11 @@ module _ (rest : List Inst) (given : List ℕ) (short : 4 * length (print_code +
         let s3 : Reaches code given short 65596 c2 1 65600 c3 =
         stores_byte code given short 65596 c2 6 29 p 45 (record { position = 15; place = refl; here = refl }) (lit< tt) (lit< tt) refl refl (lit< tt)
         (omega (arith, l.holds.pointer, is.bottom, count)) (omega (arith, l.holds.pointer, is.top)) in
-        let holds : InHand low a c3 (45 ∷ text) = byte_before low a l.next text c3 p 45 is l.holds (omega (arith, count)) before refl refl refl refl refl refl (λ x. refl) in
+        let holds : InHand low a c3 (45 ∷ text) = byte_before low a l.next text c3 p 45 is l.holds (omega (arith, count)) before refl refl refl refl refl refl refl (λ x. refl) in
         let f : Ended low 7 65600 back a c3 (45 ∷ text) = finish low back a c3 (45 ∷ text) is holds (omega (arith, count)) (omega (arith, count)) from even near in
         record {
           next = f.next;
-          within = within_more code given short (6 + (6 * length (decimal m) + (1 + (1 + (1 + (1 + 7)))))) (20 + 6 * length (decimal m)) 65536 a back f.next (omega arith)
+          within = within_more code given short (6 + (6 * length (decimal m) + (1 + (1 + (1 + (1 + 7)))))) (18 + 6 * length (decimal m)) 65536 a back f.next (omega arith)
               (within_on code given short 6 65536 a 65560 b.next (6 * length (decimal m) + (1 + (1 + (1 + (1 + 7))))) back f.next b.within
               (within_on code given short (6 * length (decimal m)) 65560 b.next 65584 l.next (1 + (1 + (1 + (1 + 7)))) back f.next l.within
               (step_on code given short _ _ _ _ _ _ _ s0 (step_on code given short _ _ _ _ _ _ _ s1 (step_on code given short _ _ _ _ _ _ _ s2
@@ -394,20 +399,20 @@ module _ (rest : List Inst) (given : List ℕ) (short : 4 * length (print_code +
         }
 
     pub print_sim : (back : ℕ) → a.regs 1 ≡ back → back % 4 ≡ 0 → back < 2 ^ 32 →
-        Ended low (20 + 6 * length (int_text (cast_signed w64 w))) 65536 back a a (int_text (cast_signed w64 w) ++ (sep ∷ []))
+        Ended low (18 + 6 * length (int_text (cast_signed w64 w))) 65536 back a a (int_text (cast_signed w64 w) ++ (sep ∷ []))
     print_sim back from even near = by_size (nat_lt w (2 ^ 63)) refl
       where
-        by_size : (t : Bool) → nat_lt w (2 ^ 63) ≡ t → Ended low (20 + 6 * length (int_text (cast_signed w64 w))) 65536 back a a (int_text (cast_signed w64 w) ++ (sep ∷ []))
+        by_size : (t : Bool) → nat_lt w (2 ^ 63) ≡ t → Ended low (18 + 6 * length (int_text (cast_signed w64 w))) 65536 back a a (int_text (cast_signed w64 w) ++ (sep ∷ []))
         by_size true e =
             let small : w < 2 ^ 63 = grind (arith, nat_tests) in
-            let P : ℤ → Type 0 = λ z. Ended low (20 + 6 * length (int_text z)) 65536 back a a (int_text z ++ (sep ∷ [])) in
+            let P : ℤ → Type 0 = λ z. Ended low (18 + 6 * length (int_text z)) 65536 back a a (int_text z ++ (sep ∷ [])) in
             subst P (sym (signed_low w small)) (print_low back from even near small)
         by_size false e =
             let big : 2 ^ 63 ≤ w = grind (arith, nat_tests) in
-            let P : ℤ → Type 0 = λ z. Ended low (20 + 6 * length (int_text z)) 65536 back a a (int_text z ++ (sep ∷ [])) in
-            let h : Ended low (20 + 6 * length (decimal (2 ^ 64 - 1 - w + 1))) 65536 back a a (45 ∷ (decimal (2 ^ 64 - 1 - w + 1) ++ (sep ∷ []))) = print_high back from even near big in
+            let P : ℤ → Type 0 = λ z. Ended low (18 + 6 * length (int_text z)) 65536 back a a (int_text z ++ (sep ∷ [])) in
+            let h : Ended low (18 + 6 * length (decimal (2 ^ 64 - 1 - w + 1))) 65536 back a a (45 ∷ (decimal (2 ^ 64 - 1 - w + 1) ++ (sep ∷ []))) = print_high back from even near big in
             subst P (sym (signed_high w big word)) (record {
               next = h.next;
-              within = within_more code given short (20 + 6 * length (decimal (2 ^ 64 - 1 - w + 1))) (20 + 6 * suc (length (decimal (2 ^ 64 - 1 - w + 1)))) 65536 a back h.next (omega arith) h.within;
+              within = within_more code given short (18 + 6 * length (decimal (2 ^ 64 - 1 - w + 1))) (18 + 6 * suc (length (decimal (2 ^ 64 - 1 - w + 1)))) 65536 a back h.next (omega arith) h.within;
               printed = h.printed;
             })

@@ -2,20 +2,27 @@
 use Rattle.std.proofs.Common.{◌≡◌, ℕ, ◌+◌, ◌-◌, ◌*◌, ◌/◌, ◌%◌, ◌^◌, ◌<◌, ◌≤◌, Bool, false, List, [], ◌∷◌, length, arith, ap, ◌∙◌, subst, refl}
 use Rattle.std.specs.Prelude.{ℤ, pos, negsuc, slice_index, not, ◌==◌, if◌then◌else◌}
 use Rattle.std.proofs.Math.Nat.{mod-eq_of_lt, add-zero}
+use Rattle.std.specs.Int.{w64, to_le_bytes, from_le_bytes}
+use Rattle.std.proofs.lemmas.Nat.{from_le_bytes-to_le_bytes_8}
 use Rattle.rv_table.specs.State.{address_from, store_bytes}
-use Rattle.rv_table.specs.Words.{minus, word, signed_below, shifted_left, quotient_unsigned, remainder_unsigned}
-use Rattle.rv_table.specs.Bytes.{written}
+use Rattle.rv_table.specs.Words.{plus, minus, word, signed_below, shifted_left, quotient_unsigned, remainder_unsigned}
+use Rattle.rv_table.specs.Bytes.{run, written}
 use Rattle.rv_table.specs.declared.inst.Inst.{Inst}
-use Rattle.rv_table.specs.declared.inst.Inst.TheVariants.{Jalr, Bne, Bge, Sb, Addi, Slli, Sub, Divu, Remu}
-use Rattle.rv_table.specs.declared.effect.Effect.TheVariants.{Put, Store, Branch, Link}
-use Rattle.rv_table.specs.declared.effect.StoreKind.TheVariants.{Byte}
-use Rattle.odc_build.proofs.Flat.{Flat, reg, set, At, Reaches, puts, stores, branches, links, reaches_on, stays, regs_alike}
+use Rattle.rv_table.specs.declared.inst.Inst.TheVariants.{Jalr, Bne, Bge, Sb, Sd, Ld, Addi, Slli, Add, Sub, Mul, Divu, Remu}
+use Rattle.rv_table.specs.declared.effect.Effect.TheVariants.{Put, Load, Store, Branch, Link}
+use Rattle.rv_table.specs.declared.effect.StoreKind.TheVariants.{Byte, Double as StoreDouble}
+use Rattle.rv_table.specs.declared.effect.LoadKind.TheVariants.{Double as LoadDouble}
+use Rattle.odc_build.proofs.Flat.{Flat, reg, set, At, Reaches, puts, loads, stores, branches, links, reaches_on, stays, regs_alike}
 
 abbrev pub putting : Flat → ℕ → ℕ → Flat
 putting a rd v = record a { regs = set a.regs rd v }
 
 abbrev pub storing : Flat → ℕ → ℕ → Flat
 storing a address v = record a { mem = written a.mem address (v ∷ []) }
+
+-- a word in eight bytes, the lowest first
+abbrev pub storing_word : Flat → ℕ → ℕ → Flat
+storing_word a address v = record a { mem = written a.mem address (to_le_bytes w64 v) }
 
 -- ---- words
 
@@ -60,6 +67,39 @@ module _ (code : List Inst) (given : List ℕ) (short : 4 * length code ≤ 0x4f
   remains p a rd rs1 rs2 v at d one two e =
       puts code given short p a (Remu rd rs1 rs2) rd v at refl d (λ s r.
       ap (λ (x : ℕ). Put rd (remainder_unsigned x (slice_index s.registers rs2))) (r.each rs1 one) ∙ ap (λ (y : ℕ). Put rd (remainder_unsigned (reg a.regs rs1) y)) (r.each rs2 two) ∙ ap (Put rd) e)
+
+  pub sums : (p : ℕ) (a : Flat) (rd rs1 rs2 v : ℕ) → At code p (Add rd rs1 rs2) → rd < 32 → rs1 < 32 → rs2 < 32 → plus (reg a.regs rs1) (reg a.regs rs2) ≡ v →
+      Reaches code given short p a 1 (p + 4) (putting a rd v)
+  sums p a rd rs1 rs2 v at d one two e =
+      puts code given short p a (Add rd rs1 rs2) rd v at refl d (λ s r.
+      ap (λ (x : ℕ). Put rd (plus x (slice_index s.registers rs2))) (r.each rs1 one) ∙ ap (λ (y : ℕ). Put rd (plus (reg a.regs rs1) y)) (r.each rs2 two) ∙ ap (Put rd) e)
+
+  pub multiplies : (p : ℕ) (a : Flat) (rd rs1 rs2 v : ℕ) → At code p (Mul rd rs1 rs2) → rd < 32 → rs1 < 32 → rs2 < 32 → reg a.regs rs1 * reg a.regs rs2 % 2 ^ 64 ≡ v →
+      Reaches code given short p a 1 (p + 4) (putting a rd v)
+  multiplies p a rd rs1 rs2 v at d one two e =
+      puts code given short p a (Mul rd rs1 rs2) rd v at refl d (λ s r.
+      ap (λ (x : ℕ). Put rd (x * slice_index s.registers rs2 % 2 ^ 64)) (r.each rs1 one) ∙ ap (λ (y : ℕ). Put rd (reg a.regs rs1 * y % 2 ^ 64)) (r.each rs2 two) ∙ ap (Put rd) e)
+
+  -- a word from the stack
+  pub loads_word : (p : ℕ) (a : Flat) (rd rs1 address v : ℕ) → At code p (Ld rd rs1 (pos 0)) → rd < 32 → rs1 < 32 → reg a.regs rs1 ≡ address →
+      run a.mem address 8 ≡ to_le_bytes w64 v → v < 2 ^ 64 → 0x7800_0000 ≤ address → address + 8 ≤ 2 ^ 31 → Reaches code given short p a 1 (p + 4) (putting a rd v)
+  loads_word p a rd rs1 address v at d one to what small low high =
+      loads code given short p a (Ld rd rs1 (pos 0)) rd address v LoadDouble at refl d
+      (λ s r.
+      ap (λ (x : ℕ). Load rd (address_from x (pos 0)) LoadDouble) (r.each rs1 one ∙ to)
+      ∙ ap (λ (x : ℕ). Load rd x LoadDouble) (plus_small address 0 (omega arith) ∙ add-zero address))
+      (ap (from_le_bytes w64) what ∙ from_le_bytes-to_le_bytes_8 v small) low high
+
+  -- a word into the stack
+  pub stores_word : (p : ℕ) (a : Flat) (rs1 rs2 address v : ℕ) → At code p (Sd rs1 rs2 (pos 0)) → rs1 < 32 → rs2 < 32 → reg a.regs rs1 ≡ address → reg a.regs rs2 ≡ v →
+      0x7800_0000 ≤ address → address + 8 ≤ 2 ^ 31 → Reaches code given short p a 1 (p + 4) (storing_word a address v)
+  stores_word p a rs1 rs2 address v at one two to what low high =
+      stores code given short p a (Sd rs1 rs2 (pos 0)) address v StoreDouble at refl
+      (λ s r.
+      ap (λ (x : ℕ). Store (address_from x (pos 0)) StoreDouble (slice_index s.registers rs2)) (r.each rs1 one ∙ to)
+      ∙ ap (λ (x : ℕ). Store x StoreDouble (slice_index s.registers rs2)) (plus_small address 0 (omega arith) ∙ add-zero address)
+      ∙ ap (Store address StoreDouble) (r.each rs2 two ∙ what))
+      low high
 
   -- a byte into the stack
   pub stores_byte : (p : ℕ) (a : Flat) (rs1 rs2 address v : ℕ) → At code p (Sb rs1 rs2 (pos 0)) → rs1 < 32 → rs2 < 32 → reg a.regs rs1 ≡ address → reg a.regs rs2 ≡ v → v < 256 →

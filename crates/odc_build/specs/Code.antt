@@ -1,16 +1,19 @@
 -- The instructions of a program. Register 2 holds the low end of the frame of `main`, register 9 the
 -- address of the text, where the routine that prints a number stands. That routine takes the number
 -- in register 10 and the byte that follows it in register 11; it writes both by one call of the
--- system, from the lowest bytes of the frame.
-use Rattle.std.specs.Prelude.{ℕ, zero, suc, ◌+◌, ◌-◌, ◌*◌, ◌/◌, ◌%◌, ◌<◌, pos, negsuc, List, [], ◌∷◌, ◌++◌, nat_lt, if◌then◌else◌}
+-- system, from the lowest bytes of the frame. Behind the variables of the frame lie the values that
+-- wait for their right operand; register 8 holds the place of the next one.
+use Rattle.std.specs.Prelude.{ℕ, zero, suc, ◌+◌, ◌-◌, ◌*◌, ◌/◌, ◌%◌, ◌<◌, pos, negsuc, List, [], ◌∷◌, ◌++◌, length, nat_lt, if◌then◌else◌}
 use Rattle.std.specs.Int.{w64, cast_unsigned}
 use Rattle.rv_table.specs.declared.inst.Inst.{Inst}
-use Rattle.rv_table.specs.declared.inst.Inst.TheVariants.{Jalr, Bne, Bge, Sb, Addi, Slli, Sub, Divu, Remu, Ecall}
+use Rattle.rv_table.specs.declared.inst.Inst.TheVariants.{Jalr, Bne, Bge, Sb, Sd, Ld, Addi, Slli, Add, Sub, Mul, Divu, Remu, Ecall}
 use Rattle.odc_typed.specs.declared.tree.Constant.TheVariants.{Int}
+use Rattle.odc_typed.specs.declared.tree.BinaryOp.{BinaryOp}
+use Rattle.odc_typed.specs.declared.tree.BinaryOp.TheVariants.{Add as Plus, Subtract, Multiply}
 use Rattle.odc_typed.specs.declared.tree.Builtin.{Builtin}
 use Rattle.odc_typed.specs.declared.tree.Builtin.TheVariants.{Println}
-use Rattle.odc_typed.specs.Tree.{Expr, const, builtin, Exprs, none, more, Stmt, eval, Stmts, finish, follow, Proc}
-use Rattle.odc_typed.specs.Frame.{frame, stack_end}
+use Rattle.odc_typed.specs.Tree.{Expr, const, local, binary, builtin, Exprs, none, more, Stmt, eval, declare, assign, Stmts, finish, follow, Proc}
+use Rattle.odc_typed.specs.Frame.{frame, stack_end, variable_place}
 
 abbrev pub text_start : ℕ
 text_start = 0x10000
@@ -56,9 +59,35 @@ print_code =
     Jalr 0 1 (pos 0) ∷
     []
 
--- a value of type `int` into register 10
+-- the place of a variable into register 6
+abbrev pub variable_code : ℕ → List Inst
+variable_code x = number_code 5 6 (variable_place 0 x) ++ (Add 6 6 2 ∷ [])
+
+-- a variable into register 10, and back
+abbrev pub read_code : ℕ → List Inst
+read_code x = variable_code x ++ (Ld 10 6 (pos 0) ∷ [])
+
+abbrev pub store_code : ℕ → List Inst
+store_code x = variable_code x ++ (Sd 6 10 (pos 0) ∷ [])
+
+-- the value in register 10 waits, and comes back into register 11
+abbrev pub push_code : List Inst
+push_code = Sd 8 10 (pos 0) ∷ Addi 8 8 (pos 8) ∷ []
+
+abbrev pub pop_code : List Inst
+pop_code = Addi 8 8 (negsuc 7) ∷ Ld 11 8 (pos 0) ∷ []
+
+-- the left operand in register 11, the right one in register 10
+abbrev pub operation : BinaryOp → Inst
+operation Plus = Add 10 11 10
+operation Subtract = Sub 10 11 10
+operation Multiply = Mul 10 11 10
+
+-- a value of type `int` into register 10; a call has none
 abbrev pub value_code : Expr → List Inst
 value_code (const at (Int value)) = number_code 5 10 (cast_unsigned w64 value)
+value_code (local at x) = read_code x
+value_code (binary at op left right) = value_code left ++ (push_code ++ (value_code right ++ (pop_code ++ (operation op ∷ []))))
 value_code (builtin at which arguments) = []
 
 -- what follows an argument: a space, or after the last one a newline
@@ -80,17 +109,31 @@ builtin_code Println arguments = line_code arguments
 
 abbrev pub call_code : Expr → List Inst
 call_code (const at value) = []
+call_code (local at x) = []
+call_code (binary at op left right) = []
 call_code (builtin at which arguments) = builtin_code which arguments
+
+-- the value in register 10 into a place
+abbrev pub place_code : Expr → List Inst
+place_code (local at x) = store_code x
+place_code (const at value) = []
+place_code (binary at op left right) = []
+place_code (builtin at which arguments) = []
 
 abbrev pub stmt_code : Stmt → List Inst
 stmt_code (eval at value) = call_code value
+stmt_code (declare at x value) = value_code value ++ store_code x
+stmt_code (assign at target value) = value_code value ++ place_code target
 
 abbrev pub stmts_code : Stmts → List Inst
 stmts_code finish = []
 stmts_code (follow s ss) = stmt_code s ++ stmts_code ss
 
 abbrev pub start_code : Proc → List Inst
-start_code p = number_code 5 2 (stack_end - frame p) ++ number_code 5 9 text_start
+start_code p =
+    number_code 2 2 (stack_end - frame p)
+    ++ (number_code 1 9 text_start
+    ++ number_code 2 8 (variable_place (stack_end - frame p) (length p.locals)))
 
 abbrev pub exit_code : List Inst
 exit_code = Addi 10 0 (pos 0) ∷ Addi 17 0 (pos 93) ∷ Ecall ∷ []

@@ -2,7 +2,7 @@
 
 ghost use Rattle.std.specs.Prelude.{◌≡◌, ℕ, ◌^◌, ◌≤◌, IfOk};
 ghost use Rattle.odc_typed.specs.View.{proc, program};
-ghost use Rattle.odc_typed.specs.Well.{IsWell, IsWellProc};
+ghost use Rattle.odc_typed.specs.Well.{IsWell};
 ghost use Rattle.odc_typed.specs.Frame.{frame, FramesFit};
 ghost use Rattle.odc_build.specs.Code.{code_of as instructions_of};
 ghost use Rattle.odc_build.specs.Kept.{KeptBy, FollowedBy};
@@ -30,13 +30,14 @@ pub struct Image {
 
 /// The instructions of a program whose `main` is this procedure.
 fn code_of(alloc: Global, main: &Procedure) -> Result<Vec<Inst>, AllocError>
-    requires well { IsWellProc (proc main.now) }
-    requires fits { frame (proc main.now) ≤ 2 ^ 24 }
+    requires { frame (proc main.now) ≤ 2 ^ 24 }
     ensures { IfOk result (λ code. code.items ≡ instructions_of (proc main.now)) }
 {
     let mut code = print_routine(alloc)?;
-    emit_number(&mut code, 5, 2, STACK_END - frame_of(main))?;
-    emit_number(&mut code, 5, 9, TEXT_START)?;
+    let low = STACK_END - frame_of(main);
+    emit_number(&mut code, 2, 2, low)?;
+    emit_number(&mut code, 1, 9, TEXT_START)?;
+    emit_number(&mut code, 2, 8, low + 128 + 16 * main.locals.len() as u64)?;
     emit_stmts(&mut code, &main.body)?;
     code.push(Inst::Addi {
         rd: 10,

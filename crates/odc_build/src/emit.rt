@@ -1,12 +1,11 @@
 //! The instructions of a program.
 
-ghost use Rattle.std.specs.Prelude.{◌≡◌, ◌+◌, ◌*◌, ◌^◌, ◌<◌, ◌++◌, OnOk, IfOk};
+ghost use Rattle.std.specs.Prelude.{◌≡◌, ◌+◌, ◌*◌, ◌^◌, ◌<◌, [], ◌∷◌, ◌++◌, OnOk, IfOk};
 ghost use Rattle.std.specs.Int.{cast_unsigned};
 ghost use Rattle.odc_typed.specs.View.{exprs, expr, stmt, stmts};
-ghost use Rattle.odc_typed.specs.Well.{IsInt, AreInts, AreTaken, IsCall, IsWellStmt, AreWell};
-ghost use Rattle.odc_build.specs.Code.{number_code, IsShort, print_code, value_code, arguments_code, line_code, builtin_code, call_code, stmt_code, stmts_code};
+ghost use Rattle.odc_build.specs.Code.{number_code, IsShort, print_code, push_code, pop_code, operation, variable_code, store_code, value_code, arguments_code, line_code, builtin_code, call_code, place_code, stmt_code, stmts_code};
 
-use odc_typed::tree::{Builtin, Constant, ExprKind, StmtKind, TExpr, TStmt};
+use odc_typed::tree::{BinaryOp, Builtin, Constant, ExprKind, StmtKind, TExpr, TStmt};
 use rv_table::inst::Inst;
 use std::alloc::{AllocError, Global};
 
@@ -14,6 +13,10 @@ use std::alloc::{AllocError, Global};
 const RA: u8 = 1;
 
 const SP: u8 = 2;
+
+const T1: u8 = 6;
+
+const S0: u8 = 8;
 
 const S1: u8 = 9;
 
@@ -168,21 +171,94 @@ pub fn emit_number(code: &mut Vec<Inst>, more: u32, rd: u8, value: u64) -> Resul
     Ok(())
 }
 
-/// Appends the instructions that put the value of an `int` into `a0`.
+/// Appends the instructions that put the place of a variable into `t1`.
+fn emit_variable(code: &mut Vec<Inst>, x: u32) -> Result<(), AllocError>
+    ensures { OnOk result (code.new.items ≡ code.old.items ++ variable_code x) }
+{
+    emit_number(code, 5, T1, 128 + 16 * u64::from(x))?;
+    code.push(Inst::Add {
+        rd: T1,
+        rs1: T1,
+        rs2: SP,
+    })?;
+    Ok(())
+}
+
+/// The operation on the left operand in `a1` and the right one in `a0`.
+fn operation_of(op: BinaryOp) -> Inst
+    ensures { result ≡ operation op }
+{
+    let (rd, rs1, rs2) = (A0, A1, A0);
+    match op {
+        BinaryOp::Add => Inst::Add { rd, rs1, rs2 },
+        BinaryOp::Subtract => Inst::Sub { rd, rs1, rs2 },
+        BinaryOp::Multiply => Inst::Mul { rd, rs1, rs2 },
+    }
+}
+
+/// Appends the instructions by which the value in `a0` waits.
+fn emit_push(code: &mut Vec<Inst>) -> Result<(), AllocError>
+    ensures { OnOk result (code.new.items ≡ code.old.items ++ push_code) }
+{
+    code.push(Inst::Sd {
+        rs1: S0,
+        rs2: A0,
+        imm: 0,
+    })?;
+    code.push(Inst::Addi {
+        rd: S0,
+        rs1: S0,
+        imm: 8,
+    })?;
+    Ok(())
+}
+
+/// Appends the instructions that put the value that waits into `a1`, and the operation.
+fn emit_operation(code: &mut Vec<Inst>, op: BinaryOp) -> Result<(), AllocError>
+    ensures { OnOk result (code.new.items ≡ code.old.items ++ (pop_code ++ (operation op ∷ []))) }
+{
+    code.push(Inst::Addi {
+        rd: S0,
+        rs1: S0,
+        imm: -8,
+    })?;
+    code.push(Inst::Ld {
+        rd: A1,
+        rs1: S0,
+        imm: 0,
+    })?;
+    code.push(operation_of(op))?;
+    Ok(())
+}
+
+/// Appends the instructions that put the value of an `int` into `a0`; a call has none.
 fn emit_value(code: &mut Vec<Inst>, e: &TExpr) -> Result<(), AllocError>
-    requires { IsInt (expr e.now) }
     ensures { OnOk result (code.new.items ≡ code.old.items ++ value_code (expr e.now)) }
 {
     match &e.kind {
         ExprKind::Const(Constant::Int { value }) => emit_number(code, 5, A0, value.cast_unsigned()),
-        ExprKind::Builtin(_, _) => unreachable!(),
+        ExprKind::Local(x) => {
+            emit_variable(code, *x)?;
+            code.push(Inst::Ld {
+                rd: A0,
+                rs1: T1,
+                imm: 0,
+            })?;
+            Ok(())
+        }
+        ExprKind::Binary(op, left, right) => {
+            emit_value(code, left)?;
+            emit_push(code)?;
+            emit_value(code, right)?;
+            emit_operation(code, *op)
+        }
+        ExprKind::Builtin(_, _) => Ok(()),
     }
 }
 
 /// Appends, for each argument, the instructions that print it and what follows it: a space, or
 /// after the last one a newline.
 fn emit_arguments(code: &mut Vec<Inst>, arguments: &[TExpr]) -> Result<(), AllocError>
-    requires { AreInts (exprs arguments.now) }
     ensures { OnOk result (code.new.items ≡ code.old.items ++ arguments_code (exprs arguments.now)) }
 {
     for (i, e) in arguments.iter().enumerate() {
@@ -204,7 +280,6 @@ fn emit_arguments(code: &mut Vec<Inst>, arguments: &[TExpr]) -> Result<(), Alloc
 
 /// Appends the instructions of a printed line.
 fn emit_line(code: &mut Vec<Inst>, arguments: &[TExpr]) -> Result<(), AllocError>
-    requires { AreInts (exprs arguments.now) }
     ensures { OnOk result (code.new.items ≡ code.old.items ++ line_code (exprs arguments.now)) }
 {
     if !arguments.is_empty() {
@@ -239,7 +314,6 @@ fn emit_builtin(
     builtin: Builtin,
     arguments: &[TExpr],
 ) -> Result<(), AllocError>
-    requires { AreTaken builtin (exprs arguments.now) }
     ensures { OnOk result (code.new.items ≡ code.old.items ++ builtin_code builtin (exprs arguments.now)) }
 {
     match builtin {
@@ -247,30 +321,58 @@ fn emit_builtin(
     }
 }
 
-/// Appends the instructions of a call without results.
+/// Appends the instructions of a call without results; a value as a statement has none.
 fn emit_call(code: &mut Vec<Inst>, e: &TExpr) -> Result<(), AllocError>
-    requires { IsCall (expr e.now) }
     ensures { OnOk result (code.new.items ≡ code.old.items ++ call_code (expr e.now)) }
 {
     match &e.kind {
         ExprKind::Builtin(builtin, arguments) => emit_builtin(code, *builtin, arguments),
-        ExprKind::Const(_) => unreachable!(),
+        ExprKind::Const(_) | ExprKind::Local(_) | ExprKind::Binary(_, _, _) => Ok(()),
+    }
+}
+
+/// Appends the instructions that put the value in `a0` into a variable.
+fn emit_store(code: &mut Vec<Inst>, x: u32) -> Result<(), AllocError>
+    ensures { OnOk result (code.new.items ≡ code.old.items ++ store_code x) }
+{
+    emit_variable(code, x)?;
+    code.push(Inst::Sd {
+        rs1: T1,
+        rs2: A0,
+        imm: 0,
+    })?;
+    Ok(())
+}
+
+/// Appends the instructions that put the value in `a0` into a place; what is no place gets none.
+fn emit_place(code: &mut Vec<Inst>, target: &TExpr) -> Result<(), AllocError>
+    ensures { OnOk result (code.new.items ≡ code.old.items ++ place_code (expr target.now)) }
+{
+    match &target.kind {
+        ExprKind::Local(x) => emit_store(code, *x),
+        ExprKind::Const(_) | ExprKind::Binary(_, _, _) | ExprKind::Builtin(_, _) => Ok(()),
     }
 }
 
 /// Appends the instructions of a statement.
 fn emit_stmt(code: &mut Vec<Inst>, s: &TStmt) -> Result<(), AllocError>
-    requires { IsWellStmt (stmt s.now) }
     ensures { OnOk result (code.new.items ≡ code.old.items ++ stmt_code (stmt s.now)) }
 {
     match &s.kind {
         StmtKind::Eval(value) => emit_call(code, value),
+        StmtKind::Declare(x, value) => {
+            emit_value(code, value)?;
+            emit_store(code, *x)
+        }
+        StmtKind::Assign(target, value) => {
+            emit_value(code, value)?;
+            emit_place(code, target)
+        }
     }
 }
 
 /// Appends the instructions of all statements.
 pub fn emit_stmts(code: &mut Vec<Inst>, body: &[TStmt]) -> Result<(), AllocError>
-    requires { AreWell (stmts body.now) }
     ensures { OnOk result (code.new.items ≡ code.old.items ++ stmts_code (stmts body.now)) }
 {
     for s in body {

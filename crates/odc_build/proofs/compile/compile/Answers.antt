@@ -10,15 +10,8 @@ use Rattle.odc_build.proofs.Sizes.{code_fit, code_short}
 use Rattle.odc_build.proofs.Whole.{keeps_program}
 use Rattle.odc_build.proofs.compile.compile.Goals as goal
 
-pub code_of-requires-clause-well : goal.code_of-requires-clause-well
-code_of-requires-clause-well c =
-    let items = c.args.p.now.procedures.items in
-    let main = c.args.p.now.main in
-    let x = c.index-main.result.now in
-    well_at (map proc items) main (proc x) c.requires.well.procedures (chosen items main x c.index-main.ensures c.requires.well.main)
-
-pub code_of-requires-clause-fits : goal.code_of-requires-clause-fits
-code_of-requires-clause-fits c =
+pub code_of-requires : goal.code_of-requires
+code_of-requires c =
     let items = c.args.p.now.procedures.items in
     let main = c.args.p.now.main in
     let x = c.index-main.result.now in
@@ -29,8 +22,10 @@ encoded-requires c =
     let items = c.args.p.now.procedures.items in
     let main = c.args.p.now.main in
     let x = c.index-main.result.now in
-    let well = well_at (map proc items) main (proc x) c.requires.well.procedures (chosen items main x c.index-main.ensures c.requires.well.main) in
-    subst AllFit (sym (c.deref.ensures.value ∙ c.in_ok-code.ensures)) (code_fit (proc x) well)
+    let is = chosen items main x c.index-main.ensures c.requires.well.main in
+    let well = well_at (map proc items) main (proc x) c.requires.well.procedures is in
+    let fits : frame (proc x) ≤ 2 ^ 24 = frame_at (map proc items) main (proc x) c.requires.frames is in
+    subst AllFit (sym (c.deref.ensures.value ∙ c.in_ok-code.ensures)) (code_fit (proc x) well fits)
 
 pub returns-clause-kept : goal.returns-clause-kept
 returns-clause-kept c =

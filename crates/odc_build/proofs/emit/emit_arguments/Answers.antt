@@ -2,12 +2,9 @@ use Rattle.std.proofs.Common.{arith, ◌∙◌, ap, sym, pos, ◌≡◌, ◌<◌
 use Rattle.std.specs.Int.{w32, cast_signed}
 use Rattle.odc_typed.specs.View.{exprs}
 use Rattle.odc_build.specs.Code.{separator}
-use Rattle.odc_build.proofs.Emitted.{arguments_first, arguments_more, separator_last, separator_more}
+use Rattle.odc_build.proofs.Emitted.{arguments_more, separator_last, separator_more}
 use Rattle.odc_build.proofs.emit.emit_arguments.Goals as goal
 use Rattle.odc_build.proofs.emit.emit_arguments.Goals.{then-i-arguments, else-i-arguments}
-
-pub emit_value-requires : goal.emit_value-requires
-emit_value-requires c = (arguments_first c.args.arguments.now c.loop-i.i c.index-arguments-i.result c.loop-i-test.true c.index-arguments-i.is c.loop-i.invariant.ints).0
 
 pub loop-i-preserved : goal.loop-i-preserved
 loop-i-preserved c =
@@ -17,7 +14,4 @@ loop-i-preserved c =
       | then-i-arguments w ↦ w.separator-is ∙ ap pos (sym (separator_last xs i w.if-i-arguments.true))
       | else-i-arguments w ↦ (let less : i + 1 < length xs = omega arith in w.separator-is ∙ ap pos (sym (separator_more xs i less)))
     ] in
-    record {
-      ints = (arguments_first xs i c.index-arguments-i.result c.loop-i-test.true c.index-arguments-i.is c.loop-i.invariant.ints).1;
-      told = arguments_more xs i c.index-arguments-i.result _ _ _ _ _ _ c.loop-i-test.true c.index-arguments-i.is sep c.loop-i.invariant.told c.in_ok-emit_value.ensures c.in_ok-push.ensures.items c.in_ok-push-2.ensures.items;
-    }
+    arguments_more xs i c.index-arguments-i.result _ _ _ _ _ _ c.loop-i-test.true c.index-arguments-i.is sep c.loop-i.invariant c.in_ok-emit_value.ensures c.in_ok-push.ensures.items c.in_ok-push-2.ensures.items
