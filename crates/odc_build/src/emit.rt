@@ -9,12 +9,12 @@ use odc_typed::tree::{BinaryOp, Builtin, Constant, ExprKind, StmtKind, TExpr, TS
 use rv_table::inst::Inst;
 use std::alloc::{AllocError, Global};
 
-/// The registers of the code, by the names of the calling convention.
+/// The registers of the code, by the names of the calling convention; `SCRATCH` is `t1`.
 const RA: u8 = 1;
 
 const SP: u8 = 2;
 
-const T1: u8 = 6;
+const SCRATCH: u8 = 6;
 
 const S0: u8 = 8;
 
@@ -175,10 +175,10 @@ pub fn emit_number(code: &mut Vec<Inst>, more: u32, rd: u8, value: u64) -> Resul
 fn emit_variable(code: &mut Vec<Inst>, x: u32) -> Result<(), AllocError>
     ensures { OnOk result (code.new.items ≡ code.old.items ++ variable_code x) }
 {
-    emit_number(code, 5, T1, 128 + 16 * u64::from(x))?;
+    emit_number(code, 5, SCRATCH, 128 + 16 * u64::from(x))?;
     code.push(Inst::Add {
-        rd: T1,
-        rs1: T1,
+        rd: SCRATCH,
+        rs1: SCRATCH,
         rs2: SP,
     })?;
     Ok(())
@@ -241,7 +241,7 @@ fn emit_value(code: &mut Vec<Inst>, e: &TExpr) -> Result<(), AllocError>
             emit_variable(code, *x)?;
             code.push(Inst::Ld {
                 rd: A0,
-                rs1: T1,
+                rs1: SCRATCH,
                 imm: 0,
             })?;
             Ok(())
@@ -337,7 +337,7 @@ fn emit_store(code: &mut Vec<Inst>, x: u32) -> Result<(), AllocError>
 {
     emit_variable(code, x)?;
     code.push(Inst::Sd {
-        rs1: T1,
+        rs1: SCRATCH,
         rs2: A0,
         imm: 0,
     })?;
