@@ -9,7 +9,8 @@ use Rattle.std.proofs.lemmas.Str.{digit_value_digit}
 use Rattle.std.proofs.lemmas.Int.Digits.{digits_value_more}
 use Rattle.std.proofs.lemmas.Fmt.{digits_decimal, decimal_injective, decimal_nonempty, length-decimal-le, first_decimal, decimal_digit, decimal-digits_value}
 use Rattle.odc_tool.specs.Forms.{FoundAt, NoneAt, NoDigitFirst, IsPlain}
-use Rattle.odc_tool.specs.Grammar.{IsInt, ints}
+use Rattle.odc_tool.specs.Grammar.{IsInt}
+use Rattle.odc_tool.specs.Reading.{ints}
 use Rattle.odc_tool.proofs.FormLemmas.{Unique}
 
 pub own : IsNumeralModel (AllDigits 10) (digits_value 10)

@@ -2,13 +2,16 @@ pub mod DigitLemmas
 pub mod FormLemmas
 pub mod GatherLemmas
 pub mod GrammarLemmas
+pub mod KnowsLemmas
 pub mod NameLemmas
 pub mod OneVerdict
 pub mod OrderLemmas
 pub mod VerdictLemmas
 pub mod ViewLemmas
 pub mod WordLemmas
+pub mod SumLemmas
 pub mod TypingLemmas
+pub mod WellLemmas
 pub mod TellingLemmas
 pub mod NeverStrays
 pub mod Answering

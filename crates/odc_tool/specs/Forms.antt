@@ -32,6 +32,18 @@ many form = record {
   Ends = λ rest. form.Ends rest × NoneAt form rest;
 }
 
+-- a fixed text
+abbrev pub mark : List ℕ → Form (Unit {0})
+mark text = record { spelling = λ _. text; Is = λ _. Unit {0}; Ends = λ _. Unit {0} }
+
+-- one form, and then another
+abbrev pub both : {A B : Type 0} → Form A → Form B → Form (A × B)
+both first second = record {
+  spelling = λ p. first.spelling p.0 ++ second.spelling p.1;
+  Is = λ p. first.Is p.0 × second.Is p.1;
+  Ends = second.Ends;
+}
+
 -- no digit comes first
 abbrev pub NoDigitFirst : List ℕ → Type 0
 NoDigitFirst [] = Unit {0}

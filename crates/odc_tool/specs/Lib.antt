@@ -4,6 +4,8 @@ pub mod Gather
 pub mod Grammar
 pub mod Headline
 pub mod Loading
+pub mod Reading
+pub mod Small
 pub mod Status
 pub mod Telling
 pub mod Typing

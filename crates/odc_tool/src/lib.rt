@@ -6,9 +6,11 @@
 
 pub mod folder;
 pub mod grammar;
+mod names;
 mod pieces;
 pub mod run;
 pub mod status;
+mod sums;
 #[cfg(test)]
 mod tests;
 pub mod typing;

@@ -1,9 +1,9 @@
-//! Pieces that stand at the front of a text: marks and integers.
+//! Pieces that stand at the front of a text: marks, integers and names.
 
 ghost use Rattle.std.specs.Prelude.{◌≡◌, ◌≢◌, ◌++◌, ◌≤◌, List, ℕ, MatchOption, IsTrue, ◌↔◌, length};
 ghost use Rattle.std.specs.Str.Parse.{AllDigits, digits_value};
 ghost use Rattle.odc_tool.specs.Forms.{FoundAt, NoneAt, NoDigitFirst, IsPlain};
-ghost use Rattle.odc_tool.specs.Grammar.{ints};
+ghost use Rattle.odc_tool.specs.Reading.{ints, names};
 
 /// What follows a mark at the front.
 pub fn strip<'a>(mark: &[u8], bytes: &'a [u8]) -> Option<&'a [u8]>
@@ -52,6 +52,28 @@ pub fn int_at(bytes: &[u8]) -> Option<(u32, &[u8])>
     let (digits, rest) = split_digits(bytes);
     if is_plain(digits) {
         Some((value_of(digits), rest))
+    } else {
+        None
+    }
+}
+
+// Whether no digit comes first.
+fn begins_without_digit(bytes: &[u8]) -> bool
+    ensures { IsTrue result ↔ NoDigitFirst bytes.now }
+{
+    match bytes.split_first() {
+        Some((first, _)) => !first.is_ascii_digit(),
+        None => true,
+    }
+}
+
+/// The name at the front, and what follows it.
+pub fn name_at(bytes: &[u8]) -> Option<(u8, &[u8])>
+    ensures { MatchOption result (NoneAt names bytes.now) (λ p. FoundAt names bytes.now p.0 p.1.now) }
+{
+    let (first, rest) = bytes.split_first()?;
+    if first.is_ascii_lowercase() && begins_without_digit(rest) {
+        Some((*first, rest))
     } else {
         None
     }

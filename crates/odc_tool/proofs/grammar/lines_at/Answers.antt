@@ -1,6 +1,6 @@
 use Rattle.std.proofs.Common.{sym, ◌∙◌, ap, subst}
 use Rattle.odc_tool.specs.Forms.{FoundAt}
-use Rattle.odc_tool.specs.Grammar.{lines}
+use Rattle.odc_tool.specs.Reading.{lines}
 use Rattle.odc_tool.specs.View.{line, lines_of}
 use Rattle.odc_tool.proofs.FormLemmas.{SoFar, one_more}
 use Rattle.odc_tool.proofs.ViewLemmas.{lines_push}

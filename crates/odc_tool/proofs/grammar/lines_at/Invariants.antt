@@ -1,5 +1,5 @@
 use Rattle.std.proofs.Common.{length}
-use Rattle.odc_tool.specs.Grammar.{lines}
+use Rattle.odc_tool.specs.Reading.{lines}
 use Rattle.odc_tool.specs.View.{lines_of}
 use Rattle.odc_tool.proofs.FormLemmas.{SoFar}
 use Rattle.odc_tool.proofs.grammar.lines_at.Given as goal

@@ -1,6 +1,6 @@
 use Rattle.std.proofs.Common.{sym, subst}
 use Rattle.odc_tool.specs.Forms.{FoundAt}
-use Rattle.odc_tool.specs.Grammar.{ints}
+use Rattle.odc_tool.specs.Reading.{ints}
 use Rattle.odc_tool.proofs.DigitLemmas.{plain_found, none_plain}
 use Rattle.odc_tool.proofs.pieces.int_at.Goals as goal
 

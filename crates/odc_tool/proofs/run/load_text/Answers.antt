@@ -10,7 +10,7 @@ use Rattle.rv_machine.specs.Machine.{loaded_from}
 use Rattle.odc_tool.specs.Typing.{typed}
 use Rattle.odc_tool.specs.View.{text}
 use Rattle.odc_tool.specs.Loading.{LoadedFor}
-use Rattle.odc_tool.proofs.TypingLemmas.{typed_well, typed_fits}
+use Rattle.odc_tool.proofs.WellLemmas.{typed_well, typed_fits}
 use Rattle.odc_tool.proofs.run.load_text.Goals as goal
 
 pub compile-requires-clause-well : goal.compile-requires-clause-well
@@ -29,6 +29,3 @@ returns c =
       kept = λ entry_of. subst (λ (p : Whole). KeptBy entry_of p image) c.in_ok-program.ensures (c.in_ok-image.ensures.kept entry_of);
       is = e ∙ ap loaded_from c.in_ok-view.ensures.image;
     }) c.load.ensures
-
-pub program_of-requires : goal.program_of-requires
-program_of-requires c = c.requires.short

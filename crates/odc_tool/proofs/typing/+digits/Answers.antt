@@ -1,4 +1,4 @@
-use Rattle.std.proofs.Common.{◌≡◌, ◌+◌, ◌/◌, ◌%◌, ◌≤◌, ◌^◌, ◌<◌, ◌∷◌, [], arith, ap, sym, ◌∙◌, length, length-append, lit<}
+use Rattle.std.proofs.Common.{◌+◌, ◌/◌, ◌%◌, ◌≤◌, ◌∷◌, [], arith, ap, sym, ◌∙◌, length, length-append, lit<}
 use Rattle.std.specs.Prelude.{decimal}
 use Rattle.std.proofs.lemmas.Fmt.{decimal_digit, decimal_step, length-decimal-le}
 use Rattle.odc_tool.proofs.typing.+digits.Goals as goal

@@ -1,0 +1,11 @@
+use Rattle.std.proofs.Common.{length}
+use Rattle.odc_tool.specs.Reading.{nexts}
+use Rattle.odc_tool.specs.View.{sums_of}
+use Rattle.odc_tool.proofs.FormLemmas.{SoFar}
+use Rattle.odc_tool.proofs.grammar.nexts_at.Given as goal
+
+abbrev pub invariant-loop-found : goal.invariant-loop-found
+invariant-loop-found l = SoFar nexts l.bytes (sums_of l.found.items) l.rest
+
+abbrev pub decreases-loop-found : goal.decreases-loop-found
+decreases-loop-found l = length l.rest
