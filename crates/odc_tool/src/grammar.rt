@@ -236,27 +236,34 @@ mod tests {
     fn lines_and_values_are_read(rt: HostRuntime) -> Result<(), Fail> {
         let body = "\tx := 1 - 2\n\tx = x * 3 + 4\n\tfmt.println(x, 22)\n";
         let text = read(&rt, BEFORE, body, "}\n")?.ok_or("not taken")?;
-        assert_eq!(rt; text.lines.len(), 3);
-        let Line::Declare { name, value } = &text.lines[0] else {
-            return Err(Fail::from("no declaration"));
+        let [Line::Declare { name, value }, assigned, printed] = text.lines.as_slice() else {
+            return Err(Fail::from("not these lines"));
+        };
+        let [term] = value.more.as_slice() else {
+            return Err(Fail::from("not two products"));
         };
         assert_eq!(rt; *name, b'x');
         assert!(rt; matches!(value.first.first, Atom::Number(1)));
-        assert_eq!(rt; value.more.len(), 1);
-        assert!(rt; matches!(value.more[0].sign, Sign::Minus));
-        assert!(rt; matches!(value.more[0].mul.first, Atom::Number(2)));
-        let Line::Assign { name, value } = &text.lines[1] else {
+        assert!(rt; matches!(term.sign, Sign::Minus));
+        assert!(rt; matches!(term.mul.first, Atom::Number(2)));
+        let Line::Assign { name, value } = assigned else {
             return Err(Fail::from("no assignment"));
+        };
+        let ([factor], [term]) = (value.first.more.as_slice(), value.more.as_slice()) else {
+            return Err(Fail::from("not two factors and two products"));
         };
         assert_eq!(rt; *name, b'x');
         assert!(rt; matches!(value.first.first, Atom::Name(b'x')));
-        assert!(rt; matches!(value.first.more[0], Atom::Number(3)));
-        assert!(rt; matches!(value.more[0].sign, Sign::Plus));
-        let Line::Print { first, more } = &text.lines[2] else {
+        assert!(rt; matches!(factor, Atom::Number(3)));
+        assert!(rt; matches!(term.sign, Sign::Plus));
+        let Line::Print { first, more } = printed else {
             return Err(Fail::from("no call"));
         };
+        let [second] = more.as_slice() else {
+            return Err(Fail::from("not two values"));
+        };
         assert!(rt; matches!(first.first.first, Atom::Name(b'x')));
-        assert!(rt; matches!(more[0].first.first, Atom::Number(22)));
+        assert!(rt; matches!(second.first.first, Atom::Number(22)));
         Ok(())
     }
 

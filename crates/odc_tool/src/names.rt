@@ -39,6 +39,7 @@ fn knows_atom(atom: Atom, names: &[u8]) -> bool
     }
 }
 
+// Whether the names among these factors are declared.
 fn knows_atoms(atoms: &[Atom], names: &[u8]) -> bool
     ensures { IsTrue result ↔ AllByRecursion (KnowsAtom names.now) atoms.now }
 {
@@ -50,12 +51,14 @@ fn knows_atoms(atoms: &[Atom], names: &[u8]) -> bool
     true
 }
 
+// Whether the names in a product are declared.
 fn knows_mul(product: &Mul, names: &[u8]) -> bool
     ensures { IsTrue result ↔ KnowsMul names.now (mul product.now) }
 {
     knows_atom(product.first, names) && knows_atoms(&product.more, names)
 }
 
+// Whether the names in these further products are declared.
 fn knows_terms(terms: &[Term], names: &[u8]) -> bool
     ensures { IsTrue result ↔ AllByRecursion (KnowsTerm names.now) (terms_of terms.now) }
 {
@@ -67,12 +70,14 @@ fn knows_terms(terms: &[Term], names: &[u8]) -> bool
     true
 }
 
+// Whether the names in a sum are declared.
 fn knows_sum(value: &Sum, names: &[u8]) -> bool
     ensures { IsTrue result ↔ KnowsSum names.now (sum value.now) }
 {
     knows_mul(&value.first, names) && knows_terms(&value.more, names)
 }
 
+// Whether the names in these sums are declared.
 fn knows_sums(values: &[Sum], names: &[u8]) -> bool
     ensures { IsTrue result ↔ AllByRecursion (KnowsSum names.now) (sums_of values.now) }
 {

@@ -88,6 +88,132 @@ fn lines_are_printed_in_order(rt: HostRuntime) -> Result<(), Fail> {
     Ok(())
 }
 
+/// A whole text around the lines of `main`.
+fn text_of(alloc: Global, lines: &[u8]) -> Result<Vec<u8>, AllocError> {
+    let mut text = Vec::from_slice(
+        alloc,
+        b"package main\nimport \"core:fmt\"\nmain :: proc() {\n",
+    )?;
+    text.extend_from_slice(lines)?;
+    text.extend_from_slice(b"}\n")?;
+    Ok(text)
+}
+
+/// Whether `main` of these lines prints this, and ends with 0.
+fn lines_print(alloc: Global, lines: &[u8], out: &[u8]) -> Result<bool, AllocError> {
+    prints(alloc, &text_of(alloc, lines)?, out)
+}
+
+#[test]
+fn variables_are_declared_and_assigned(rt: HostRuntime) -> Result<(), Fail> {
+    let lines = b"\ta := 9\n\tb := a * a - 2\n\ta = b * b\n\tfmt.println(a, b + 1, 7)\n";
+    assert!(rt; lines_print(rt.alloc(), lines, b"6241 80 7\n")?);
+    Ok(())
+}
+
+#[test]
+fn products_wrap_in_64_bits(rt: HostRuntime) -> Result<(), Fail> {
+    let lines = b"\ta := 999999999\n\tfmt.println(a * a * a)\n";
+    assert!(rt; lines_print(rt.alloc(), lines, b"8515845249265065471\n")?);
+    Ok(())
+}
+
+#[test]
+fn a_negative_result_has_its_sign(rt: HostRuntime) -> Result<(), Fail> {
+    let lines = b"\ta := 0\n\tfmt.println(a - 1)\n\tfmt.println(1 - 3)\n";
+    assert!(rt; lines_print(rt.alloc(), lines, b"-1\n-2\n")?);
+    Ok(())
+}
+
+#[test]
+fn the_least_int_is_printed(rt: HostRuntime) -> Result<(), Fail> {
+    let lines = b"\ta := 256\n\tb := a * a * a * a * a * a * a * 128\n\tfmt.println(0 - b, b)\n";
+    let least = b"-9223372036854775808 -9223372036854775808\n";
+    assert!(rt; lines_print(rt.alloc(), lines, least)?);
+    Ok(())
+}
+
+#[test]
+fn sums_are_nested_to_the_left(rt: HostRuntime) -> Result<(), Fail> {
+    let lines = b"\ta := 7\n\tfmt.println(a - 2 - 1, a - 2 + 1, 2 - 1 - a)\n";
+    assert!(rt; lines_print(rt.alloc(), lines, b"4 6 -6\n")?);
+    Ok(())
+}
+
+#[test]
+fn a_redeclared_name_is_refused(rt: HostRuntime) -> Result<(), Fail> {
+    let alloc = rt.alloc();
+    assert!(rt; is_refused(alloc, &text_of(alloc, b"\ta := 1\n\ta := 2\n")?)?);
+    assert!(rt; is_refused(alloc, &text_of(alloc, b"\tfmt.println(a)\n")?)?);
+    Ok(())
+}
+
+/// A line that declares `a` as 1, and one that prints a sum of so many products of so many factors.
+fn sum_text(alloc: Global, muls: usize, factors: usize) -> Result<Vec<u8>, AllocError> {
+    let mut lines = Vec::from_slice(alloc, b"\ta := 1\n\tfmt.println(")?;
+    for mul in 0..muls {
+        if mul != 0 {
+            lines.extend_from_slice(b" + ")?;
+        }
+        for factor in 0..factors {
+            if factor != 0 {
+                lines.extend_from_slice(b" * ")?;
+            }
+            lines.extend_from_slice(b"a")?;
+        }
+    }
+    lines.extend_from_slice(b")\n")?;
+    text_of(alloc, &lines)
+}
+
+#[test]
+fn eight_products_of_eight_factors_are_taken(rt: HostRuntime) -> Result<(), Fail> {
+    let alloc = rt.alloc();
+    assert!(rt; prints(alloc, &sum_text(alloc, 8, 8)?, b"8\n")?);
+    assert!(rt; is_refused(alloc, &sum_text(alloc, 9, 8)?)?);
+    assert!(rt; is_refused(alloc, &sum_text(alloc, 8, 9)?)?);
+    Ok(())
+}
+
+#[test]
+fn twenty_six_names_are_taken(rt: HostRuntime) -> Result<(), Fail> {
+    let alloc = rt.alloc();
+    let mut lines = Vec::new(alloc);
+    for letter in b'a'..=b'z' {
+        lines.extend_from_slice(b"\t")?;
+        lines.push(letter)?;
+        lines.extend_from_slice(b" := 7\n")?;
+    }
+    lines.extend_from_slice(b"\tz = 8\n\tfmt.println(a, y, z)\n")?;
+    assert!(rt; prints(alloc, &text_of(alloc, &lines)?, b"7 7 8\n")?);
+    Ok(())
+}
+
+/// A text of 16,384 bytes, and as many more: `a` is set to 1 again and again, and at last to a
+/// number of three digits, and as many more.
+fn long_text(alloc: Global, more: usize) -> Result<Vec<u8>, AllocError> {
+    let mut lines = Vec::from_slice(alloc, b"\ta := 1\n")?;
+    for _ in 0..2331 {
+        lines.extend_from_slice(b"\ta = 1\n")?;
+    }
+    lines.extend_from_slice(b"\ta = 123")?;
+    for _ in 0..more {
+        lines.extend_from_slice(b"0")?;
+    }
+    lines.extend_from_slice(b"\n")?;
+    text_of(alloc, &lines)
+}
+
+#[test]
+fn texts_of_16_384_bytes_are_taken(rt: HostRuntime) -> Result<(), Fail> {
+    let alloc = rt.alloc();
+    let text = long_text(alloc, 0)?;
+    assert_eq!(rt; text.len(), 16384);
+    assert!(rt; prints(alloc, &text, b"")?);
+    assert!(rt; is_refused(alloc, &long_text(alloc, 1)?)?);
+    Ok(())
+}
+
 #[test]
 fn an_empty_main_is_silent(rt: HostRuntime) -> Result<(), Fail> {
     let text = b"package main\nimport \"core:fmt\"\nmain :: proc() {\n}\n";

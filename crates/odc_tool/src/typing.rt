@@ -368,16 +368,21 @@ mod tests {
     #[test]
     fn constants_in_front_are_one(rt: HostRuntime) -> Result<(), Fail> {
         let program = typed_text(&rt)?;
-        let main = &program.procedures[0];
-        assert_eq!(rt; main.locals.len(), 2);
-        assert!(rt; is_at(main.locals[1].at, 5, 2));
-        let StmtKind::Declare(x, value) = &main.body[0].kind else {
+        let [main] = program.procedures.as_slice() else {
+            return Err(Fail::from("not one procedure"));
+        };
+        let ([first, second, ..], [_, variable]) = (main.body.as_slice(), main.locals.as_slice())
+        else {
+            return Err(Fail::from("not two statements and two variables"));
+        };
+        assert!(rt; is_at(variable.at, 5, 2));
+        let StmtKind::Declare(x, value) = &first.kind else {
             return Err(Fail::from("no declaration"));
         };
         assert_eq!(rt; *x, 0);
         assert!(rt; is_at(value.at, 4, 13));
         assert!(rt; matches!(value.kind, ExprKind::Const(Constant::Int { value: -7 })));
-        let StmtKind::Declare(x, value) = &main.body[1].kind else {
+        let StmtKind::Declare(x, value) = &second.kind else {
             return Err(Fail::from("no declaration"));
         };
         assert_eq!(rt; *x, 1);
@@ -389,8 +394,13 @@ mod tests {
     #[test]
     fn nodes_stand_at_their_places(rt: HostRuntime) -> Result<(), Fail> {
         let program = typed_text(&rt)?;
-        let main = &program.procedures[0];
-        let StmtKind::Assign(target, value) = &main.body[2].kind else {
+        let [main] = program.procedures.as_slice() else {
+            return Err(Fail::from("not one procedure"));
+        };
+        let [_, _, third, fourth] = main.body.as_slice() else {
+            return Err(Fail::from("not four statements"));
+        };
+        let StmtKind::Assign(target, value) = &third.kind else {
             return Err(Fail::from("no assignment"));
         };
         assert!(rt; is_at(target.at, 6, 2));
@@ -402,15 +412,18 @@ mod tests {
         assert!(rt; is_at(left.at, 6, 8));
         assert!(rt; matches!(left.kind, ExprKind::Binary(BinaryOp::Multiply, ..)));
         assert!(rt; is_at(right.at, 6, 14));
-        let StmtKind::Eval(call) = &main.body[3].kind else {
+        let StmtKind::Eval(call) = &fourth.kind else {
             return Err(Fail::from("no call"));
         };
         assert!(rt; is_at(call.at, 7, 2));
         let ExprKind::Builtin(Builtin::Println, values) = &call.kind else {
             return Err(Fail::from("no call"));
         };
-        assert!(rt; is_at(values[0].at, 7, 14));
-        assert!(rt; is_at(values[1].at, 7, 20));
+        let [first, second] = values.as_slice() else {
+            return Err(Fail::from("not two values"));
+        };
+        assert!(rt; is_at(first.at, 7, 14));
+        assert!(rt; is_at(second.at, 7, 20));
         Ok(())
     }
 }
