@@ -1,7 +1,7 @@
 -- What the first range that covers an access says.
 use Rattle.std.proofs.Common.{◌≡◌, ℕ, zero, suc, ◌+◌, ◌-◌, ◌<◌, ◌≤◌, Bool, true, false, List, [], ◌∷◌, length, set, get_or, ap, ◌∙◌, sym, subst, refl}
-use Rattle.std.specs.Prelude.{Option, Some, None, option_map, option_and_then, position, slice_get, slice_range}
-use Rattle.rv_table.specs.State.{Area, covers, loaded, overwritten, filled}
+use Rattle.std.specs.Prelude.{nat_le, ◌&&◌, Option, Some, None, option_map, option_and_then, position, slice_get, slice_range}
+use Rattle.rv_table.specs.State.{Area, allows, covers, loaded, overwritten, filled}
 use Rattle.rv_table.specs.declared.effect.Access.{Access}
 use Rattle.rv_table.specs.declared.effect.Access.TheVariants.{Write}
 use Rattle.rv_table.proofs.Areas.{position_here, position_on, Inside, inside}
@@ -34,6 +34,10 @@ passing p (x ∷ xs) i d e = by_test (λ k f. passing p xs k d f) (p x) refl
         subst Q same (record { passes = f; at = refl })
     by_test rest false f = later rest (position p xs) refl (sym (position_on p x xs f) ∙ e)
 
+first_of : (a b c : Bool) → (a && b && c) ≡ true → a ≡ true
+first_of true b c h = refl
+first_of false b c h = cc
+
 module _ (areas : List Area) (access : Access) (address size i : ℕ) (x : Area) (e : Some i ≡ position (covers access address size) areas) (is : x ≡ get_or areas i x) where
   found : Passes (covers access address size) areas i x
   found = let Q : Area → Type 0 = λ y. Passes (covers access address size) areas i y in subst Q (sym is) (passing (covers access address size) areas i x (sym e))
@@ -42,6 +46,7 @@ module _ (areas : List Area) (access : Access) (address size i : ℕ) (x : Area)
   held_there =
       let within : Inside x address size = inside x access address size found.passes in
       record {
+        allowed = first_of (allows access x) (nat_le x.start address) (nat_le (address + size) (x.start + length x.bytes)) found.passes;
         start = within.low;
         end = within.high;
         loads = ap (option_and_then (λ k. option_map (λ area. slice_range area.bytes (address - area.start) (address - area.start + size)) (slice_get areas k))) (sym e)

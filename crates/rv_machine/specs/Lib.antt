@@ -6,3 +6,4 @@ pub mod Outside
 pub mod Checks
 pub mod Runs
 pub mod Turns
+pub mod Text

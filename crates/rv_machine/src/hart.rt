@@ -17,7 +17,6 @@ use crate::arithmetic::{
 };
 use crate::memory::Memory;
 use crate::registers::Registers;
-use rv_table::decode;
 use rv_table::effect::{Access, Effect, Event, LoadKind, StoreKind};
 use rv_table::inst::Inst;
 use std::marker::Model;
@@ -483,7 +482,6 @@ impl Hart {
         ensures is { result ≡ fetched self.now }
         ensures fits { IfSome result (λ i. Fits i) }
     {
-        let word = self.memory.load_4(Access::Execute, self.pc)?;
-        decode(word)
+        self.memory.instruction(self.pc)
     }
 }

@@ -13,6 +13,7 @@ pub mod machine;
 mod memory;
 mod registers;
 pub mod stop;
+mod text;
 #[cfg(test)]
 mod tests;
 

@@ -1,18 +1,23 @@
 //! Memory: ranges of bytes, each with what it allows.
 
-ghost use Rattle.std.specs.Prelude.{◌≡◌, ℕ, ◌+◌, ◌-◌, ◌≤◌, ◌<◌, List, map, All, IfOk, length, OnErr, MatchOption, option_map, Some, None, false, if◌then◌else◌, position, slice_range};
+ghost use Rattle.std.specs.Prelude.{◌≡◌, ℕ, ◌+◌, ◌-◌, ◌≤◌, ◌<◌, List, map, All, IfOk, IfSome, length, OnErr, MatchOption, option_map, option_and_then, Some, None, true, false, if◌then◌else◌, position, slice_range};
 ghost use Rattle.std.specs.Int.{w8, w16, w32, w64, from_le_bytes};
+ghost use Rattle.rv_table.specs.Table.{decoded, Fits};
 ghost use Rattle.rv_table.specs.State.{allows, covers, loaded, overwritten, filled, stored, store_bytes};
 ghost use Rattle.rv_table.specs.Run.{area_of};
 ghost use Rattle.rv_machine.specs.Memory.{Holds};
+ghost use Rattle.rv_machine.specs.Text.{word_at};
 ghost use Rattle.odc_io.specs.Counts.{Rose};
 ghost use Rattle.odc_io.specs.Streams.{shrunk, ReadsNext, AtEnd};
 ghost use Rattle.rv_machine.specs.Image.{range_of, BytesFit};
 ghost use Rattle.rv_machine.specs.Turns.{IsEnded, Received, Fetched};
 
 use crate::image::Range;
+use crate::text::{text_of, word_at};
 use odc_io::{Failed, Source};
+use rv_table::decode;
 use rv_table::effect::{Access, StoreKind};
+use rv_table::inst::Inst;
 use std::alloc::{AllocError, Global};
 use std::marker::Model;
 
@@ -43,14 +48,19 @@ pub struct Region {
     writable: bool,
     executable: bool,
     bytes: Vec<u8>,
+    // What the words mean, from the start; empty where they may be written.
+    text: Vec<Option<Inst>>,
 }
 
 impl Model for Region {
     ghost use Rattle.rv_table.specs.State.{Area};
+    ghost use Rattle.rv_machine.specs.Text.{KeepsText};
 
     ghost Value = { Area };
 
     ghost view = { λ r. record { start = r.start; readable = r.readable; writable = r.writable; executable = r.executable; bytes = r.bytes.items } };
+
+    ghost invariant = { λ r. KeepsText r.writable r.bytes.items r.text.items };
 }
 
 impl Region {
@@ -62,12 +72,14 @@ impl Region {
         let mut bytes = Vec::with_capacity(alloc, size)?;
         bytes.extend_from_slice(&range.bytes)?;
         bytes.resize(size, 0)?;
+        let text = text_of(alloc, range, &bytes)?;
         Ok(Region {
             start: range.start,
             readable: range.readable,
             writable: range.writable,
             executable: range.executable,
             bytes,
+            text,
         })
     }
 
@@ -134,14 +146,32 @@ impl Region {
         u64::from_le_bytes(word)
     }
 
+    // The instruction of the word at the address.
+    fn instruction(&self, address: u64) -> Option<Inst>
+        requires start { self.now.start ≤ address }
+        requires end { address + 4 ≤ self.now.start + length self.now.bytes }
+        ensures is { result ≡ decoded (word_at self.now.bytes (address - self.now.start)) }
+        ensures fits { IfSome result (λ i. Fits i) }
+    {
+        let at = (address - self.start) as usize;
+        if at % 4 == 0 {
+            if let Some(inst) = self.text.get(at / 4) {
+                return *inst;
+            }
+        }
+        decode(word_at(&self.bytes, at))
+    }
+
     fn overwrite_at(&mut self, at: usize, bytes: &[u8])
-        requires { at + length bytes.now ≤ length self.old.bytes }
+        requires open { self.old.writable ≡ true }
+        requires end { at + length bytes.now ≤ length self.old.bytes }
         ensures { self.new ≡ overwritten self.old (self.old.start + at) bytes.now }
     {
         self.bytes[at..at + bytes.len()].copy_from_slice(bytes);
     }
 
     fn overwrite(&mut self, address: u64, bytes: &[u8])
+        requires open { self.old.writable ≡ true }
         requires start { self.old.start ≤ address }
         requires end { address + length bytes.now ≤ self.old.start + length self.old.bytes }
         ensures { self.new ≡ overwritten self.old address bytes.now }
@@ -167,6 +197,7 @@ impl Region {
         input: &mut S,
         ended: &mut bool,
     ) -> Result<usize, Failed>
+        requires open { self.old.writable ≡ true }
         requires start { self.old.start ≤ address }
         requires end { address + size ≤ self.old.start + length self.old.bytes }
         requires over { IsEnded ended.old (S.rest input.old) }
@@ -262,6 +293,15 @@ impl Memory {
     {
         let region = self.region_of(access, address, 8)?;
         Some(region.load_8(address))
+    }
+
+    /// The instruction at the address, where one range covers its word and may be executed.
+    pub fn instruction(&self, address: u64) -> Option<Inst>
+        ensures is { result ≡ option_and_then (λ bytes. decoded (from_le_bytes w32 bytes)) (loaded self.now Access.Execute address 4) }
+        ensures fits { IfSome result (λ i. Fits i) }
+    {
+        let region = self.region_of(Access::Execute, address, 4)?;
+        region.instruction(address)
     }
 
     /// Puts bytes at the start of a buffer, where one range covers the buffer and may be written;

@@ -5,6 +5,9 @@ use Rattle.rv_machine.specs.Memory.{Holds}
 use Rattle.rv_machine.proofs.Found.{held, fills}
 use Rattle.rv_machine.proofs.memory.Memory.fill.Goals as goal
 
+pub overwrite-requires-clause-open : goal.overwrite-requires-clause-open
+overwrite-requires-clause-open c = (held c.self.inside.regions.items c.args.self.now c.self.view_is Write c.args.address c.args.size c.in-Some.i c.index_mut-region.result.now c.in-Some.ensures c.index_mut-region.ensures.value).allowed
+
 pub overwrite-requires-clause-start : goal.overwrite-requires-clause-start
 overwrite-requires-clause-start c = (held c.self.inside.regions.items c.args.self.now c.self.view_is Write c.args.address c.args.size c.in-Some.i c.index_mut-region.result.now c.in-Some.ensures c.index_mut-region.ensures.value).start
 

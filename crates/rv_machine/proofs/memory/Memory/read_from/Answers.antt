@@ -7,6 +7,9 @@ use Rattle.rv_machine.proofs.Found.{held, as_option, fetched_of, as_option_ok, a
 use Rattle.rv_machine.proofs.memory.Memory.read_from.Goals as goal
 use Rattle.rv_machine.proofs.memory.Memory.read_from.Goals.{in-Ok, in-Err}
 
+pub read_from-requires-clause-open : goal.read_from-requires-clause-open
+read_from-requires-clause-open g c = (held c.self.inside.regions.items c.args.self.now c.self.view_is Write c.args.address c.args.size c.in-Some.i c.index_mut-region.result.now c.in-Some.ensures c.index_mut-region.ensures.value).allowed
+
 pub read_from-requires-clause-start : goal.read_from-requires-clause-start
 read_from-requires-clause-start g c = (held c.self.inside.regions.items c.args.self.now c.self.view_is Write c.args.address c.args.size c.in-Some.i c.index_mut-region.result.now c.in-Some.ensures c.index_mut-region.ensures.value).start
 
