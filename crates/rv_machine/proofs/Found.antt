@@ -63,6 +63,10 @@ fills_there areas address size i x bytes e is =
 pub held : (items areas : List Area) → items ≡ areas → (access : Access) (address size i : ℕ) (x : Area) → Some i ≡ position (covers access address size) areas → x ≡ get_or items i x → Holds areas access address size x
 held items areas v access address size i x e is = held_there areas access address size i x e (is ∙ ap (λ (rs : List Area). get_or rs i x) v)
 
+-- the element at an index that was found
+pub found_in : (items areas : List Area) → items ≡ areas → (access : Access) (address size i : ℕ) (x : Area) → Some i ≡ position (covers access address size) areas → x ≡ get_or items i x → Passes (covers access address size) items i x
+found_in items areas v access address size i x e is = found items access address size i x (e ∙ ap (position (covers access address size)) (sym v)) is
+
 pub fills : (items areas : List Area) → items ≡ areas → (address size i : ℕ) (x y : Area) (bytes : List ℕ) → Some i ≡ position (covers Write address size) areas → x ≡ get_or items i x →
     y ≡ overwritten x address bytes → filled areas address size bytes ≡ Some (set items i y)
 fills items areas v address size i x y bytes e is new =

@@ -4,4 +4,4 @@ pub mod Pieces
 pub mod Services
 pub mod Turning
 pub mod Running
-pub mod Texts
+pub mod Fixed

@@ -10,6 +10,7 @@ use Rattle.odc_text.specs.Steps.{After, on, over, Stand, stood, stood_after, one
 use Rattle.rv_table.specs.State.{Area, State, Step, register, stepped}
 use Rattle.rv_table.specs.Run.{Site, Config, trap, answer, took, reading, read_areas, refused, read_called, written_bytes, wrote, write_called, system_called, stopped_at, call_made, acted, act, ran}
 use Rattle.rv_table.specs.declared.effect.Event.TheVariants.{Next, System, Break, AllocCall, Trap}
+use Rattle.rv_machine.specs.Hart.{Advances}
 use Rattle.rv_machine.specs.Machine.{Loaded}
 use Rattle.rv_machine.specs.Outside.{Told, Took, Front, out_bytes, err_bytes}
 use Rattle.rv_machine.specs.Runs.{at, begun, Whole, Part, Ends, Comes, RunsAs}
@@ -18,6 +19,7 @@ use Rattle.rv_machine.specs.declared.stop.Stop.{Stop}
 use Rattle.rv_machine.specs.declared.stop.Stop.TheVariants.{Exited, Checked, Trapped, StepsOut, ReadFault, WriteFault}
 use Rattle.rv_machine.proofs.Pieces.{took_none, took_more}
 use Rattle.rv_machine.proofs.Services.{grown_none}
+use Rattle.rv_machine.proofs.Turning.{next_went}
 
 -- ---- bytes of a log
 
@@ -181,6 +183,28 @@ module _ (m : Loaded) (n i : ℕ) (s s' : State) (ended ended' : Bool) (t0 t t' 
     out = w.out ∙ ap (λ (o : Option (List ℕ)). grown o (out_bytes w.gave)) r.out ∙ grown_twice t0.out (out_bytes r.gave) (out_bytes w.gave) ∙ ap (grown t0.out) (sym (out_bytes-append r.gave w.gave));
     err = w.err ∙ ap (λ (o : Option (List ℕ)). grown o (err_bytes w.gave)) r.err ∙ grown_twice t0.err (err_bytes r.gave) (err_bytes w.gave) ∙ ap (grown t0.err) (sym (err_bytes-append r.gave w.gave));
   }
+
+pub running_at : (m : Loaded) (n i j : ℕ) (s : State) (ended : Bool) (t0 t : Told) → i ≡ j → Running m n i s ended t0 t → Running m n j s ended t0 t
+running_at m n i j s ended t0 t e r = let P : ℕ → Type 0 = λ k. Running m n k s ended t0 t in subst P e r
+
+-- and so many that are no events
+pub running_on : (m : Loaded) (n i k : ℕ) (s s' : State) (ended : Bool) (t0 t : Told) → Running m n i s ended t0 t → Advances k s s' → i + k ≤ n → Running m n (i + k) s' ended t0 t
+running_on m n i zero s s' ended t0 t r a most =
+    let P : State → Type 0 = λ x. Running m n i x ended t0 t in
+    running_at m n i (i + 0) s' ended t0 t (omega arith) (subst P (sym a) r)
+running_on m n i (suc k) s s' ended t0 t r a most =
+    running_at m n (i + k + 1) (i + suc k) s' ended t0 t (omega arith)
+    (running_more m n (i + k) a.mid s' ended ended t0 t t (running_on m n i k s a.mid ended t0 t r a.before (omega arith)) (omega arith) (next_went m.sites m.calls a.mid s' ended t (a.goes m.calls)))
+
+-- the same, counted by what is left of n
+pub running_down : (m : Loaded) (n left k : ℕ) (s s' : State) (ended : Bool) (t0 t : Told) → Running m n (n - left) s ended t0 t → Advances k s s' → k ≤ left → left ≤ n → Running m n (n - (left - k)) s' ended t0 t
+running_down m n left k s s' ended t0 t r a most within =
+    running_at m n (n - left + k) (n - (left - k)) s' ended t0 t (omega arith) (running_on m n (n - left) k s s' ended t0 t r a (omega arith))
+
+pub running_next : (m : Loaded) (n left : ℕ) (s s' : State) (ended ended' : Bool) (t0 t t' : Told) → Running m n (n - left) s ended t0 t → 0 < left → left ≤ n → Went (act m.sites m.calls) s s' ended ended' t t' →
+    Running m n (n - (left - 1)) s' ended' t0 t'
+running_next m n left s s' ended ended' t0 t t' r some within w =
+    running_at m n (n - left + 1) (n - (left - 1)) s' ended' t0 t' (omega arith) (running_more m n (n - left) s s' ended ended' t0 t t' r (omega arith) w)
 
 -- ---- the ends
 

@@ -1,10 +1,9 @@
 //! The registers, the program counter and memory, and what one instruction does to them.
 
-ghost use Rattle.std.specs.Prelude.{◌≡◌, ℕ, ◌%◌, ◌<◌, IfSome, option_map, replicate};
+ghost use Rattle.std.specs.Prelude.{◌≡◌, ℕ, ◌%◌, ◌<◌, ◌≤◌, IfSome, option_map, replicate};
 ghost use Rattle.rv_table.specs.Table.{Fits};
 ghost use Rattle.rv_table.specs.State.{State, register, address_from, effect_of, put, put_loaded, kept, branched, linked, applied, executed, fetched, load_size, load_value, store_bytes, loaded, stored};
-ghost use Rattle.rv_machine.specs.Hart.{WritesRegister};
-ghost use Rattle.rv_machine.specs.Machine.{Stays};
+ghost use Rattle.rv_machine.specs.Hart.{WritesRegister, StaysUnlessNext, GoesOn, Advances};
 
 mod system;
 
@@ -17,6 +16,7 @@ use crate::arithmetic::{
 };
 use crate::memory::Memory;
 use crate::registers::Registers;
+use rv_table::decode;
 use rv_table::effect::{Access, Effect, Event, LoadKind, StoreKind};
 use rv_table::inst::Inst;
 use std::marker::Model;
@@ -364,32 +364,33 @@ impl Hart {
     fn put(&mut self, rd: u8, value: u64) -> Event
         requires { rd < 32 }
         ensures is { put self.old rd value ≡ (result, self.new) }
-        ensures stays { Stays result self.old self.new }
+        ensures stays { StaysUnlessNext result self.old self.new }
     {
         self.registers.write(rd, value);
         self.pc = self.pc.wrapping_add(4);
         Event::Next
     }
 
-    fn load(&self, address: u64, kind: LoadKind) -> Option<u64>
-        ensures { result ≡ option_map (load_value kind) (loaded self.now.areas Access.Read address (load_size kind)) }
+    fn load(&mut self, address: u64, kind: LoadKind) -> Option<u64>
+        ensures value { result ≡ option_map (load_value kind) (loaded self.old.areas Access.Read address (load_size kind)) }
+        ensures same { self.new ≡ self.old }
     {
-        let memory = &self.memory;
+        let memory = &mut self.memory;
         Some(match kind {
-            LoadKind::SignedByte => extended_8(memory.load_1(Access::Read, address)?),
-            LoadKind::SignedHalf => extended_16(memory.load_2(Access::Read, address)?),
-            LoadKind::SignedWord => extended_32(memory.load_4(Access::Read, address)?),
-            LoadKind::Double => memory.load_8(Access::Read, address)?,
-            LoadKind::UnsignedByte => u64::from(memory.load_1(Access::Read, address)?),
-            LoadKind::UnsignedHalf => u64::from(memory.load_2(Access::Read, address)?),
-            LoadKind::UnsignedWord => u64::from(memory.load_4(Access::Read, address)?),
+            LoadKind::SignedByte => extended_8(memory.load_1(address)?),
+            LoadKind::SignedHalf => extended_16(memory.load_2(address)?),
+            LoadKind::SignedWord => extended_32(memory.load_4(address)?),
+            LoadKind::Double => memory.load_8(address)?,
+            LoadKind::UnsignedByte => u64::from(memory.load_1(address)?),
+            LoadKind::UnsignedHalf => u64::from(memory.load_2(address)?),
+            LoadKind::UnsignedWord => u64::from(memory.load_4(address)?),
         })
     }
 
     fn put_loaded(&mut self, rd: u8, address: u64, kind: LoadKind) -> Event
         requires { rd < 32 }
         ensures is { put_loaded self.old rd kind (loaded self.old.areas Access.Read address (load_size kind)) ≡ (result, self.new) }
-        ensures stays { Stays result self.old self.new }
+        ensures stays { StaysUnlessNext result self.old self.new }
     {
         match self.load(address, kind) {
             Some(value) => self.put(rd, value),
@@ -399,7 +400,7 @@ impl Hart {
 
     fn keep(&mut self, address: u64, kind: StoreKind, value: u64) -> Event
         ensures is { kept self.old (stored self.old.areas address (store_bytes kind value)) ≡ (result, self.new) }
-        ensures stays { Stays result self.old self.new }
+        ensures stays { StaysUnlessNext result self.old self.new }
     {
         if !self.memory.store(address, kind, value) {
             return Event::Trap;
@@ -410,7 +411,7 @@ impl Hart {
 
     fn branch(&mut self, taken: bool, target: u64) -> Event
         ensures is { branched self.old taken target ≡ (result, self.new) }
-        ensures stays { Stays result self.old self.new }
+        ensures stays { StaysUnlessNext result self.old self.new }
     {
         if !taken {
             self.pc = self.pc.wrapping_add(4);
@@ -426,7 +427,7 @@ impl Hart {
     fn link(&mut self, rd: u8, target: u64) -> Event
         requires { rd < 32 }
         ensures is { linked self.old rd target ≡ (result, self.new) }
-        ensures stays { Stays result self.old self.new }
+        ensures stays { StaysUnlessNext result self.old self.new }
     {
         if target % 4 != 0 {
             return Event::Trap;
@@ -439,7 +440,7 @@ impl Hart {
 
     fn pass(&mut self) -> Event
         ensures is { applied Effect.Pass self.old ≡ (result, self.new) }
-        ensures stays { Stays result self.old self.new }
+        ensures stays { StaysUnlessNext result self.old self.new }
     {
         self.pc = self.pc.wrapping_add(4);
         Event::Next
@@ -448,7 +449,7 @@ impl Hart {
     fn apply(&mut self, effect: Effect) -> Event
         requires { WritesRegister effect }
         ensures is { applied effect self.old ≡ (result, self.new) }
-        ensures stays { Stays result self.old self.new }
+        ensures stays { StaysUnlessNext result self.old self.new }
     {
         match effect {
             Effect::Put { rd, value } => self.put(rd, value),
@@ -471,7 +472,7 @@ impl Hart {
     pub fn execute(&mut self, inst: Inst) -> Event
         requires { Fits inst }
         ensures is { executed inst self.old ≡ (result, self.new) }
-        ensures stays { Stays result self.old self.new }
+        ensures stays { StaysUnlessNext result self.old self.new }
     {
         let effect = self.effect(inst);
         self.apply(effect)
@@ -482,6 +483,33 @@ impl Hart {
         ensures is { result ≡ fetched self.now }
         ensures fits { IfSome result (λ i. Fits i) }
     {
-        self.memory.instruction(self.pc)
+        let word = self.memory.word(self.pc)?;
+        decode(word)
+    }
+
+    // Carries out the instruction at the program counter, where it was decoded at load. Answers false,
+    // with nothing changed, where it wasn't or isn't carried out.
+    #[inline(always)]
+    fn go_on(&mut self) -> bool
+        ensures { GoesOn result self.old self.new }
+    {
+        let Some(inst) = self.memory.decoded(self.pc) else {
+            return false;
+        };
+        matches!(self.execute(inst), Event::Next)
+    }
+
+    /// Carries out instructions that were decoded at load, but at most so many, up to the first that
+    /// is an event. Answers how many.
+    pub fn advance(&mut self, limit: u64) -> u64
+        ensures is { Advances result self.old self.new }
+        ensures most { result ≤ limit }
+    {
+        for done in 0..limit {
+            if !self.go_on() {
+                return done;
+            }
+        }
+        limit
     }
 }

@@ -1,18 +1,18 @@
 //! The machine: an image loaded into memory, and its steps.
 
 ghost use Rattle.std.specs.Prelude.{◌≡◌, ℕ, ◌↔◌, Bool, ◌&&◌, All, IfOk, IsTrue};
-ghost use Rattle.rv_table.specs.State.{stepped, jumps_by_x5, listed};
+ghost use Rattle.rv_table.specs.State.{stepped, listed};
 ghost use Rattle.rv_machine.specs.Image.{image_of, BytesFit};
 ghost use Rattle.rv_machine.specs.Machine.{Loaded, loaded_from, Stays, CallOf};
 
 use crate::hart::Hart;
 use crate::image::{ImageView, Site};
 use crate::memory::Memory;
+use crate::text::jumps_by_x5;
 
 mod run;
 
 use rv_table::effect::Event;
-use rv_table::inst::Inst;
 use std::alloc::{AllocError, Global};
 use std::marker::Model;
 
@@ -31,16 +31,6 @@ impl Model for Machine {
     ghost Value = { Loaded };
 
     ghost view = { λ m. record { state = m.hart; sites = m.sites.items; calls = m.calls.items } };
-}
-
-// The instruction jumps by the register that holds the procedure of a call.
-fn jumps_by_x5(inst: Inst) -> bool
-    ensures { result ≡ jumps_by_x5 inst }
-{
-    match inst {
-        Inst::Jalr { rs1, .. } => rs1 == 5,
-        _ => false,
-    }
 }
 
 // The event of a listed call.

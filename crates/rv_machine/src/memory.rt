@@ -1,21 +1,20 @@
 //! Memory: ranges of bytes, each with what it allows.
 
-ghost use Rattle.std.specs.Prelude.{◌≡◌, ℕ, ◌+◌, ◌-◌, ◌≤◌, ◌<◌, List, map, All, IfOk, IfSome, length, OnErr, MatchOption, option_map, option_and_then, Some, None, true, false, if◌then◌else◌, position, slice_range};
+ghost use Rattle.std.specs.Prelude.{◌≡◌, ℕ, ◌+◌, ◌-◌, ◌*◌, ◌^◌, ◌≤◌, ◌<◌, ◌⊎◌, List, map, All, IfOk, IfSome, length, OnErr, MatchOption, option_map, Some, None, true, false, if◌then◌else◌, position, slice_range};
 ghost use Rattle.std.specs.Int.{w8, w16, w32, w64, from_le_bytes};
-ghost use Rattle.rv_table.specs.Table.{decoded, Fits};
 ghost use Rattle.rv_table.specs.State.{allows, covers, loaded, overwritten, filled, stored, store_bytes};
 ghost use Rattle.rv_table.specs.Run.{area_of};
+ghost use Rattle.rv_table.specs.Areas.{shape, IsApartFrom, AreApart};
 ghost use Rattle.rv_machine.specs.Memory.{Holds};
-ghost use Rattle.rv_machine.specs.Text.{word_at};
+ghost use Rattle.rv_machine.specs.Text.{IsFixedAt};
 ghost use Rattle.odc_io.specs.Counts.{Rose};
 ghost use Rattle.odc_io.specs.Streams.{shrunk, ReadsNext, AtEnd};
 ghost use Rattle.rv_machine.specs.Image.{range_of, BytesFit};
 ghost use Rattle.rv_machine.specs.Turns.{IsEnded, Received, Fetched};
 
 use crate::image::Range;
-use crate::text::{text_of, word_at};
+use crate::text::Text;
 use odc_io::{Failed, Source};
-use rv_table::decode;
 use rv_table::effect::{Access, StoreKind};
 use rv_table::inst::Inst;
 use std::alloc::{AllocError, Global};
@@ -48,19 +47,14 @@ pub struct Region {
     writable: bool,
     executable: bool,
     bytes: Vec<u8>,
-    // What the words mean, from the start; empty where they may be written.
-    text: Vec<Option<Inst>>,
 }
 
 impl Model for Region {
     ghost use Rattle.rv_table.specs.State.{Area};
-    ghost use Rattle.rv_machine.specs.Text.{KeepsText};
 
     ghost Value = { Area };
 
     ghost view = { λ r. record { start = r.start; readable = r.readable; writable = r.writable; executable = r.executable; bytes = r.bytes.items } };
-
-    ghost invariant = { λ r. KeepsText r.writable r.bytes.items r.text.items };
 }
 
 impl Region {
@@ -72,18 +66,16 @@ impl Region {
         let mut bytes = Vec::with_capacity(alloc, size)?;
         bytes.extend_from_slice(&range.bytes)?;
         bytes.resize(size, 0)?;
-        let text = text_of(alloc, range, &bytes)?;
         Ok(Region {
             start: range.start,
             readable: range.readable,
             writable: range.writable,
             executable: range.executable,
             bytes,
-            text,
         })
     }
 
-    fn allows(&self, access: Access) -> bool
+    pub fn allows(&self, access: Access) -> bool
         ensures { result ≡ allows access self.now }
     {
         match access {
@@ -100,6 +92,20 @@ impl Region {
             && self.start <= address
             && size <= self.bytes.len()
             && address - self.start <= (self.bytes.len() - size) as u64
+    }
+
+    // The other range begins where this one ends, or later.
+    fn ends_before(&self, other: &Region) -> bool
+        ensures { result ≡ true → self.now.start + length self.now.bytes ≤ other.now.start }
+    {
+        self.start <= other.start && self.bytes.len() as u64 <= other.start - self.start
+    }
+
+    // The two have no address in common.
+    fn is_apart(&self, other: &Region) -> bool
+        ensures { result ≡ true → (self.now.start + length self.now.bytes ≤ other.now.start) ⊎ (other.now.start + length other.now.bytes ≤ self.now.start) }
+    {
+        self.ends_before(other) || other.ends_before(self)
     }
 
     fn load_1(&self, address: u64) -> u8
@@ -124,7 +130,7 @@ impl Region {
         u16::from_le_bytes(word)
     }
 
-    fn load_4(&self, address: u64) -> u32
+    pub fn load_4(&self, address: u64) -> u32
         requires start { self.now.start ≤ address }
         requires end { address + 4 ≤ self.now.start + length self.now.bytes }
         ensures { result ≡ from_le_bytes w32 (slice_range self.now.bytes (address - self.now.start) (address - self.now.start + 4)) }
@@ -146,32 +152,14 @@ impl Region {
         u64::from_le_bytes(word)
     }
 
-    // The instruction of the word at the address.
-    fn instruction(&self, address: u64) -> Option<Inst>
-        requires start { self.now.start ≤ address }
-        requires end { address + 4 ≤ self.now.start + length self.now.bytes }
-        ensures is { result ≡ decoded (word_at self.now.bytes (address - self.now.start)) }
-        ensures fits { IfSome result (λ i. Fits i) }
-    {
-        let at = (address - self.start) as usize;
-        if at % 4 == 0 {
-            if let Some(inst) = self.text.get(at / 4) {
-                return *inst;
-            }
-        }
-        decode(word_at(&self.bytes, at))
-    }
-
     fn overwrite_at(&mut self, at: usize, bytes: &[u8])
-        requires open { self.old.writable ≡ true }
-        requires end { at + length bytes.now ≤ length self.old.bytes }
+        requires { at + length bytes.now ≤ length self.old.bytes }
         ensures { self.new ≡ overwritten self.old (self.old.start + at) bytes.now }
     {
         self.bytes[at..at + bytes.len()].copy_from_slice(bytes);
     }
 
     fn overwrite(&mut self, address: u64, bytes: &[u8])
-        requires open { self.old.writable ≡ true }
         requires start { self.old.start ≤ address }
         requires end { address + length bytes.now ≤ self.old.start + length self.old.bytes }
         ensures { self.new ≡ overwritten self.old address bytes.now }
@@ -197,11 +185,11 @@ impl Region {
         input: &mut S,
         ended: &mut bool,
     ) -> Result<usize, Failed>
-        requires open { self.old.writable ≡ true }
         requires start { self.old.start ≤ address }
         requires end { address + size ≤ self.old.start + length self.old.bytes }
         requires over { IsEnded ended.old (S.rest input.old) }
         ensures is { Received address size self.old self.new (S.rest input.old) (S.rest input.new) ended.old ended.new result }
+        ensures shape { shape self.new ≡ shape self.old }
         ensures over { IsEnded ended.new (S.rest input.new) }
         ensures counted { S.faults input.old ≤ S.faults input.new }
         ensures cause { OnErr result (Rose (S.faults input.old) (S.faults input.new)) }
@@ -219,19 +207,74 @@ impl Region {
     }
 }
 
+// The first range that covers these bytes and allows the access.
+pub fn find(regions: &[Region], access: Access, address: u64, size: usize) -> Option<usize>
+    ensures { result ≡ position (covers access address size) regions.now }
+{
+    regions
+        .iter()
+        .position(|region| region.covers(access, address, size))
+}
+
+// The range has no address in common with any of the others.
+fn is_apart_from(region: &Region, others: &[Region]) -> bool
+    ensures { result ≡ true → IsApartFrom (shape region.now) (map shape others.now) }
+{
+    for other in others {
+        if !region.is_apart(other) {
+            return false;
+        }
+    }
+    true
+}
+
+// No two ranges have an address in common.
+fn are_apart(regions: &[Region]) -> bool
+    ensures { result ≡ true → AreApart (map shape regions.now) }
+{
+    let mut at = regions.len();
+    while at > 0 {
+        at -= 1;
+        if !is_apart_from(&regions[at], &regions[at + 1..]) {
+            return false;
+        }
+    }
+    true
+}
+
+// Where the first text that may not be written begins, and how many words it has.
+fn fixed_text(ranges: &Vec<Range>) -> (u64, usize)
+    ensures { 4 * result.1 < 2 ^ 64 }
+{
+    for range in ranges {
+        if range.executable && !range.writable {
+            return (range.start, range.bytes.len() / 4);
+        }
+    }
+    (0, 0)
+}
+
 /// The ranges of a machine.
 #[derive(Drop)]
 pub struct Memory {
     regions: Vec<Region>,
+    // No two ranges have an address in common.
+    apart: bool,
+    // The range of the last access, which the next is likely to lie in.
+    recent: usize,
+    text: Text,
 }
 
 impl Model for Memory {
     ghost use Rattle.std.specs.Prelude.{List};
     ghost use Rattle.rv_table.specs.State.{Area};
+    ghost use Rattle.rv_machine.specs.Text.{Keeps};
 
     ghost Value = { List Area };
 
     ghost view = { λ m. m.regions.items };
+
+    ghost invariant = { λ m. Keeps m.regions.items m.apart m.text.start m.text.entries.items };
 }
 
 impl Memory {
@@ -244,75 +287,112 @@ impl Memory {
         for range in ranges {
             regions.push(Region::load(alloc, range)?)?;
         }
-        Ok(Memory { regions })
+        let apart = are_apart(&regions);
+        let (start, count) = fixed_text(ranges);
+        let text = Text::decode(alloc, &regions, start, count)?;
+        Ok(Memory {
+            regions,
+            apart,
+            recent: 0,
+            text,
+        })
     }
 
+    // The first range that covers these bytes and allows the access.
     fn find(&self, access: Access, address: u64, size: usize) -> Option<usize>
         ensures { result ≡ position (covers access address size) self.now }
     {
-        self.regions
-            .iter()
-            .position(|region| region.covers(access, address, size))
+        find(&self.regions, access, address, size)
     }
 
-    // The range that covers these bytes and allows the access.
-    fn region_of(&self, access: Access, address: u64, size: usize) -> Option<&Region>
-        ensures { MatchOption result (loaded self.now access address size ≡ None) (λ r. Holds self.now access address size r.now) }
+    // The same, where the range of the last access is tried first.
+    #[inline(always)]
+    fn locate(&mut self, access: Access, address: u64, size: usize) -> Option<usize>
+        requires { 0 < size }
+        ensures is { result ≡ position (covers access address size) self.old }
+        ensures same { self.new ≡ self.old }
     {
+        let recent = self.recent;
+        if self.apart
+            && recent < self.regions.len()
+            && self.regions[recent].covers(access, address, size)
+        {
+            return Some(recent);
+        }
         let i = self.find(access, address, size)?;
-        Some(&self.regions[i])
+        self.recent = i;
+        Some(i)
     }
 
-    /// The value of the byte, where one range covers it and allows the access.
-    pub fn load_1(&self, access: Access, address: u64) -> Option<u8>
-        ensures { result ≡ option_map (from_le_bytes w8) (loaded self.now access address 1) }
+    // The range at an index that was found.
+    fn region(&self, access: Access, address: u64, size: usize, i: usize) -> &Region
+        requires { Some i ≡ position (covers access address size) self.now }
+        ensures { Holds self.now access address size result.now }
     {
-        let region = self.region_of(access, address, 1)?;
-        Some(region.load_1(address))
+        &self.regions[i]
     }
 
-    /// The value of 2 bytes, where one range covers them and allows the access.
-    pub fn load_2(&self, access: Access, address: u64) -> Option<u16>
-        ensures { result ≡ option_map (from_le_bytes w16) (loaded self.now access address 2) }
+    /// The value of the byte, where one range covers it and may be read.
+    pub fn load_1(&mut self, address: u64) -> Option<u8>
+        ensures value { result ≡ option_map (from_le_bytes w8) (loaded self.old Access.Read address 1) }
+        ensures same { self.new ≡ self.old }
     {
-        let region = self.region_of(access, address, 2)?;
-        Some(region.load_2(address))
+        let i = self.locate(Access::Read, address, 1)?;
+        Some(self.region(Access::Read, address, 1, i).load_1(address))
     }
 
-    /// The value of 4 bytes, where one range covers them and allows the access.
-    pub fn load_4(&self, access: Access, address: u64) -> Option<u32>
-        ensures { result ≡ option_map (from_le_bytes w32) (loaded self.now access address 4) }
+    /// The value of 2 bytes, where one range covers them and may be read.
+    pub fn load_2(&mut self, address: u64) -> Option<u16>
+        ensures value { result ≡ option_map (from_le_bytes w16) (loaded self.old Access.Read address 2) }
+        ensures same { self.new ≡ self.old }
     {
-        let region = self.region_of(access, address, 4)?;
-        Some(region.load_4(address))
+        let i = self.locate(Access::Read, address, 2)?;
+        Some(self.region(Access::Read, address, 2, i).load_2(address))
     }
 
-    /// The value of 8 bytes, where one range covers them and allows the access.
-    pub fn load_8(&self, access: Access, address: u64) -> Option<u64>
-        ensures { result ≡ option_map (from_le_bytes w64) (loaded self.now access address 8) }
+    /// The value of 4 bytes, where one range covers them and may be read.
+    pub fn load_4(&mut self, address: u64) -> Option<u32>
+        ensures value { result ≡ option_map (from_le_bytes w32) (loaded self.old Access.Read address 4) }
+        ensures same { self.new ≡ self.old }
     {
-        let region = self.region_of(access, address, 8)?;
-        Some(region.load_8(address))
+        let i = self.locate(Access::Read, address, 4)?;
+        Some(self.region(Access::Read, address, 4, i).load_4(address))
     }
 
-    /// The instruction at the address, where one range covers its word and may be executed.
-    pub fn instruction(&self, address: u64) -> Option<Inst>
-        ensures is { result ≡ option_and_then (λ bytes. decoded (from_le_bytes w32 bytes)) (loaded self.now Access.Execute address 4) }
-        ensures fits { IfSome result (λ i. Fits i) }
+    /// The value of 8 bytes, where one range covers them and may be read.
+    pub fn load_8(&mut self, address: u64) -> Option<u64>
+        ensures value { result ≡ option_map (from_le_bytes w64) (loaded self.old Access.Read address 8) }
+        ensures same { self.new ≡ self.old }
     {
-        let region = self.region_of(Access::Execute, address, 4)?;
-        region.instruction(address)
+        let i = self.locate(Access::Read, address, 8)?;
+        Some(self.region(Access::Read, address, 8, i).load_8(address))
+    }
+
+    /// The word of an instruction, where one range covers it and may be executed.
+    pub fn word(&self, address: u64) -> Option<u32>
+        ensures { result ≡ option_map (from_le_bytes w32) (loaded self.now Access.Execute address 4) }
+    {
+        let i = self.find(Access::Execute, address, 4)?;
+        Some(self.region(Access::Execute, address, 4, i).load_4(address))
+    }
+
+    /// The instruction at the address, where it was decoded at load.
+    pub fn decoded(&self, address: u64) -> Option<Inst>
+        ensures { IfSome result (λ inst. IsFixedAt self.now address inst) }
+    {
+        self.text.at(address)
     }
 
     /// Puts bytes at the start of a buffer, where one range covers the buffer and may be written;
     /// else says false.
     #[inline(always)]
     pub fn fill(&mut self, address: u64, size: usize, bytes: &[u8]) -> bool
-        requires { length bytes.now ≤ size }
+        requires fits { length bytes.now ≤ size }
+        requires some { 0 < size }
         ensures is { filled self.old address size bytes.now ≡ (if result then Some self.new else None) }
         ensures kept { result ≡ false → self.new ≡ self.old }
     {
-        let Some(i) = self.find(Access::Write, address, size) else {
+        let Some(i) = self.locate(Access::Write, address, size) else {
             return false;
         };
         let region = &mut self.regions[i];
@@ -324,8 +404,11 @@ impl Memory {
     pub fn bytes(&self, access: Access, address: u64, size: usize) -> Option<&[u8]>
         ensures { MatchOption result (loaded self.now access address size ≡ None) (λ bytes. loaded self.now access address size ≡ Some bytes.now) }
     {
-        let region = self.region_of(access, address, size)?;
-        Some(region.bytes(address, size))
+        let i = self.find(access, address, size)?;
+        Some(
+            self.region(access, address, size, i)
+                .bytes(address, size),
+        )
     }
 
     /// Fills a buffer from a source, up to the source's end, and counts the bytes; `None` where no

@@ -1,50 +1,75 @@
-//! Text that is decoded once, at load.
+//! Text that is decoded once, at load, where it may not be written.
 
-ghost use Rattle.std.specs.Prelude.{◌≡◌, ◌+◌, ◌*◌, ◌≤◌, length, IfOk, vec_len};
-ghost use Rattle.rv_machine.specs.Text.{word_at, AreDecoded, KeepsText};
+ghost use Rattle.std.specs.Prelude.{◌≡◌, ◌*◌, ◌^◌, ◌<◌, IfOk, IfSome};
+ghost use Rattle.rv_table.specs.State.{jumps_by_x5};
+ghost use Rattle.rv_machine.specs.Text.{IsFixedAt, IsEntry, AreFixed};
 
-use crate::image::Range;
+use crate::memory::{Region, find};
 use rv_table::decode;
+use rv_table::effect::Access;
 use rv_table::inst::Inst;
 use std::alloc::{AllocError, Global};
 
-/// The word that begins at the byte.
-pub fn word_at(bytes: &[u8], at: usize) -> u32
-    requires { at + 4 ≤ length bytes.now }
-    ensures { result ≡ word_at bytes.now at }
+/// The instruction jumps by the register that holds the procedure of a call.
+pub fn jumps_by_x5(inst: Inst) -> bool
+    ensures { result ≡ jumps_by_x5 inst }
 {
-    let mut word = [0; 4];
-    word.copy_from_slice(&bytes[at..at + 4]);
-    u32::from_le_bytes(word)
+    match inst {
+        Inst::Jalr { rs1, .. } => rs1 == 5,
+        _ => false,
+    }
 }
 
-// What the first words mean, so many of them.
-fn decode_words(
-    alloc: Global,
-    bytes: &[u8],
-    count: usize,
-) -> Result<Vec<Option<Inst>>, AllocError>
-    requires { 4 * count ≤ length bytes.now }
-    ensures { IfOk result (λ entries. AreDecoded bytes.now entries.items) }
+// The instruction at the address, where it stays what it is and is no jump by x5.
+fn fixed_at(regions: &[Region], address: u64) -> Option<Inst>
+    ensures { IfSome result (λ inst. IsFixedAt regions.now address inst) }
 {
-    let mut entries = Vec::with_capacity(alloc, count)?;
-    for i in 0..count {
-        entries.push(decode(word_at(bytes, 4 * i)))?;
+    let i = find(regions, Access::Execute, address, 4)?;
+    let region = &regions[i];
+    if region.allows(Access::Write) {
+        return None;
     }
-    Ok(entries)
+    let inst = decode(region.load_4(address))?;
+    if jumps_by_x5(inst) { None } else { Some(inst) }
 }
 
-/// What is kept of the text of a range whose bytes these are: nothing where it may be written.
-pub fn text_of(
-    alloc: Global,
-    range: &Range,
-    bytes: &[u8],
-) -> Result<Vec<Option<Inst>>, AllocError>
-    requires { vec_len range.now.bytes ≤ length bytes.now }
-    ensures { IfOk result (λ entries. KeepsText range.now.writable bytes.now entries.items) }
-{
-    if range.writable || !range.executable {
-        return Ok(Vec::new(alloc));
+/// The instructions of words one after another, from an address on. There is none at a word that
+/// isn't one, that may be written, or that is a jump by x5, which may be an event.
+#[derive(Drop)]
+pub struct Text {
+    start: u64,
+    entries: Vec<Option<Inst>>,
+}
+
+impl Text {
+    /// Decodes so many words from the address on.
+    pub fn decode(
+        alloc: Global,
+        regions: &[Region],
+        start: u64,
+        count: usize,
+    ) -> Result<Text, AllocError>
+        requires { 4 * count < 2 ^ 64 }
+        ensures { IfOk result (λ text. AreFixed regions.now text.start text.entries.items) }
+    {
+        let mut entries = Vec::with_capacity(alloc, count)?;
+        for i in 0..count {
+            let Some(address) = start.checked_add(4 * i as u64) else {
+                break;
+            };
+            entries.push(fixed_at(regions, address))?;
+        }
+        Ok(Text { start, entries })
     }
-    decode_words(alloc, bytes, range.bytes.len() / 4)
+
+    /// The instruction at the address, where there is one.
+    pub fn at(&self, address: u64) -> Option<Inst>
+        ensures { IfSome result (λ inst. IsEntry self.now.start self.now.entries.items address inst) }
+    {
+        let at = address.checked_sub(self.start)?;
+        if at % 4 != 0 {
+            return None;
+        }
+        *self.entries.get((at / 4) as usize)?
+    }
 }

@@ -4,6 +4,7 @@ ghost use Rattle.std.specs.Prelude.{◌≡◌, ◌≤◌, ◌⊎◌, Some, slice
 ghost use Rattle.odc_io.specs.Counts.{Rose};
 ghost use Rattle.rv_table.specs.Run.{act};
 ghost use Rattle.rv_machine.specs.Checks.{check_stop};
+ghost use Rattle.rv_machine.specs.Hart.{Advances};
 ghost use Rattle.rv_machine.specs.Outside.{told};
 ghost use Rattle.rv_machine.specs.Runs.{RunsAs};
 ghost use Rattle.rv_machine.specs.Turns.{IsEnded, Turned};
@@ -36,6 +37,15 @@ impl Machine {
         } else {
             self.hart.trap()
         }
+    }
+
+    // Carries out instructions that are no events, but at most so many. Answers how many.
+    fn advance(&mut self, limit: u64) -> u64
+        ensures is { Advances result self.old.state self.new.state }
+        ensures most { result ≤ limit }
+        ensures lists { self.new ≡ record self.old { state = self.new.state } }
+    {
+        self.hart.advance(limit)
     }
 
     // Carries out one instruction of a run; an answer says that the run is over.
@@ -88,11 +98,16 @@ impl Machine {
         ensures write_fault { result ≡ Stop.WriteFault → Rose (O.faults out.old) (O.faults out.new) ⊎ Rose (E.faults err.old) (E.faults err.new) }
     {
         let mut ended = false;
-        for _ in 0..steps {
+        let mut left = steps;
+        loop {
+            left -= self.advance(left);
+            if left == 0 {
+                return Stop::StepsOut;
+            }
             if let Some(stop) = self.turn(input, &mut ended, out, err) {
                 return stop;
             }
+            left -= 1;
         }
-        Stop::StepsOut
     }
 }

@@ -1,9 +1,9 @@
 use Rattle.std.proofs.Common.{◌≡◌, length}
-use Rattle.rv_machine.specs.Text.{AreDecoded}
-use Rattle.rv_machine.proofs.text.decode_words.Given as goal
+use Rattle.rv_machine.specs.Text.{AreFixed}
+use Rattle.rv_machine.proofs.text.Text.decode.Given as goal
 
 abbrev pub invariant-loop-i : goal.invariant-loop-i
 invariant-loop-i l = record {
-  are : AreDecoded l.bytes l.entries.items;
+  fixed : AreFixed l.regions l.start l.entries.items;
   counted : length l.entries.items ≡ l.i;
 }

@@ -1,6 +1,0 @@
--- The range at the index that was found.
-use Rattle.rv_machine.proofs.Found.{held}
-use Rattle.rv_machine.proofs.memory.Memory.region_of.Goals as goal
-
-pub returns : goal.returns
-returns c = held c.self.inside.regions.items c.args.self.now c.self.view_is c.args.access c.args.address c.args.size c.in_ok-i.i c.index.result.now c.in_ok-i.ensures c.index.ensures
