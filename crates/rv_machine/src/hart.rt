@@ -89,6 +89,7 @@ impl Hart {
     }
 
     // What the instruction does here.
+    #[inline(always)]
     fn effect(&self, inst: Inst) -> Effect
         requires { Fits inst }
         ensures value { result ≡ effect_of inst self.now }
@@ -361,6 +362,7 @@ impl Hart {
         }
     }
 
+    #[inline(always)]
     fn put(&mut self, rd: u8, value: u64) -> Event
         requires { rd < 32 }
         ensures is { put self.old rd value ≡ (result, self.new) }
@@ -371,6 +373,7 @@ impl Hart {
         Event::Next
     }
 
+    #[inline(always)]
     fn load(&mut self, address: u64, kind: LoadKind) -> Option<u64>
         ensures value { result ≡ option_map (load_value kind) (loaded self.old.areas Access.Read address (load_size kind)) }
         ensures same { self.new ≡ self.old }
@@ -387,6 +390,7 @@ impl Hart {
         })
     }
 
+    #[inline(always)]
     fn put_loaded(&mut self, rd: u8, address: u64, kind: LoadKind) -> Event
         requires { rd < 32 }
         ensures is { put_loaded self.old rd kind (loaded self.old.areas Access.Read address (load_size kind)) ≡ (result, self.new) }
@@ -398,6 +402,7 @@ impl Hart {
         }
     }
 
+    #[inline(always)]
     fn keep(&mut self, address: u64, kind: StoreKind, value: u64) -> Event
         ensures is { kept self.old (stored self.old.areas address (store_bytes kind value)) ≡ (result, self.new) }
         ensures stays { StaysUnlessNext result self.old self.new }
@@ -409,6 +414,7 @@ impl Hart {
         Event::Next
     }
 
+    #[inline(always)]
     fn branch(&mut self, taken: bool, target: u64) -> Event
         ensures is { branched self.old taken target ≡ (result, self.new) }
         ensures stays { StaysUnlessNext result self.old self.new }
@@ -424,6 +430,7 @@ impl Hart {
         Event::Next
     }
 
+    #[inline(always)]
     fn link(&mut self, rd: u8, target: u64) -> Event
         requires { rd < 32 }
         ensures is { linked self.old rd target ≡ (result, self.new) }
@@ -446,6 +453,7 @@ impl Hart {
         Event::Next
     }
 
+    #[inline(always)]
     fn apply(&mut self, effect: Effect) -> Event
         requires { WritesRegister effect }
         ensures is { applied effect self.old ≡ (result, self.new) }
@@ -469,6 +477,7 @@ impl Hart {
 
     /// Carries out an instruction. Unless the event is Next, nothing is changed.
     #[tactic(auto, unfolding(rv_table::specs::State::executed))]
+    #[inline(always)]
     pub fn execute(&mut self, inst: Inst) -> Event
         requires { Fits inst }
         ensures is { executed inst self.old ≡ (result, self.new) }

@@ -333,6 +333,7 @@ impl Memory {
     }
 
     /// The value of the byte, where one range covers it and may be read.
+    #[inline(always)]
     pub fn load_1(&mut self, address: u64) -> Option<u8>
         ensures value { result ≡ option_map (from_le_bytes w8) (loaded self.old Access.Read address 1) }
         ensures same { self.new ≡ self.old }
@@ -342,6 +343,7 @@ impl Memory {
     }
 
     /// The value of 2 bytes, where one range covers them and may be read.
+    #[inline(always)]
     pub fn load_2(&mut self, address: u64) -> Option<u16>
         ensures value { result ≡ option_map (from_le_bytes w16) (loaded self.old Access.Read address 2) }
         ensures same { self.new ≡ self.old }
@@ -351,6 +353,7 @@ impl Memory {
     }
 
     /// The value of 4 bytes, where one range covers them and may be read.
+    #[inline(always)]
     pub fn load_4(&mut self, address: u64) -> Option<u32>
         ensures value { result ≡ option_map (from_le_bytes w32) (loaded self.old Access.Read address 4) }
         ensures same { self.new ≡ self.old }
@@ -360,6 +363,7 @@ impl Memory {
     }
 
     /// The value of 8 bytes, where one range covers them and may be read.
+    #[inline(always)]
     pub fn load_8(&mut self, address: u64) -> Option<u64>
         ensures value { result ≡ option_map (from_le_bytes w64) (loaded self.old Access.Read address 8) }
         ensures same { self.new ≡ self.old }
@@ -438,6 +442,7 @@ impl Memory {
 
     /// Stores the low bytes of a value, where one range covers them and may be written; else says
     /// false.
+    #[inline(always)]
     pub fn store(&mut self, address: u64, kind: StoreKind, value: u64) -> bool
         ensures is { stored self.old address (store_bytes kind value) ≡ (if result then Some self.new else None) }
         ensures kept { result ≡ false → self.new ≡ self.old }

@@ -66,10 +66,9 @@ impl Text {
     pub fn at(&self, address: u64) -> Option<Inst>
         ensures { IfSome result (λ inst. IsEntry self.now.start self.now.entries.items address inst) }
     {
-        let at = address.checked_sub(self.start)?;
-        if at % 4 != 0 {
+        if address < self.start || (address - self.start) % 4 != 0 {
             return None;
         }
-        *self.entries.get((at / 4) as usize)?
+        *self.entries.get(((address - self.start) / 4) as usize)?
     }
 }

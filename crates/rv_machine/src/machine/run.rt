@@ -49,6 +49,7 @@ impl Machine {
     }
 
     // Carries out one instruction of a run; an answer says that the run is over.
+    #[inline(never)]
     fn turn<S: Source, O: Sink, E: Sink>(
         &mut self,
         input: &mut S,
