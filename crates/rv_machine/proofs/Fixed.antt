@@ -78,10 +78,10 @@ module _ (areas : List Area) (j : ℕ) (x y : Area) (at : slice_get areas j ≡ 
   fixed_kept : (address : ℕ) (inst : Inst) → x.writable ≡ true → IsFixedAt areas address inst → IsFixedAt (set areas j y) address inst
   fixed_kept address inst may f =
       let other : f.index ≢ j = λ e. (
-          let here : Some f.area ≡ Some x = sym f.at ∙ ap (slice_get areas) e ∙ at in
-          let is : f.area ≡ x = cc in
-          let both : false ≡ true = sym f.fixed ∙ ap (λ (r : Area). r.writable) is ∙ may in
-          cc) in
+      let here : Some f.area ≡ Some x = sym f.at ∙ ap (slice_get areas) e ∙ at in
+      let is : f.area ≡ x = cc in
+      let both : false ≡ true = sym f.fixed ∙ ap (λ (r : Area). r.writable) is ∙ may in
+      cc) in
       record {
         index = f.index;
         area = f.area;
@@ -137,13 +137,15 @@ get_more (z ∷ xs) x y (suc i) e = elim (get_more xs x y i e) [ inl h ↦ inl h
 
 pub fixed_more : (areas : List Area) (start : ℕ) (entries : List (Option Inst)) (entry : Option Inst) → AreFixed areas start entries → IfSome entry (λ inst. IsFixedAt areas (start + 4 * length entries) inst) →
     AreFixed areas start (entries ++ entry ∷ [])
-fixed_more areas start entries entry all one = record { each = λ i inst e. elim (get_more entries entry (Some inst) i e) [
+fixed_more areas start entries entry all one = record {
+  each = λ i inst e. elim (get_more entries entry (Some inst) i e) [
     | inl h ↦ all.each i inst h
     | inr p ↦ (let P : ℕ → Type 0 = λ n. IsFixedAt areas (start + 4 * n) inst in
         let Q : Option Inst → Type 0 = λ o. IfSome o (λ x. IsFixedAt areas (start + 4 * length entries) x) in
         let here : IsFixedAt areas (start + 4 * length entries) inst = subst Q p.1 one in
         subst P (sym p.0) here)
-  ] }
+  ];
+}
 
 pub apart_more : (r : Area) (rs : List Area) (x : Area) → IsApartFrom (shape r) (map shape rs) → (r.start + length r.bytes ≤ x.start) ⊎ (x.start + length x.bytes ≤ r.start) → IsApartFrom (shape r) (map shape (rs ++ x ∷ []))
 apart_more r [] x apart one = (one, tt)

@@ -13,8 +13,8 @@ pub mod machine;
 mod memory;
 mod registers;
 pub mod stop;
-mod text;
 #[cfg(test)]
 mod tests;
+mod text;
 
 pub use rv_table::effect::Event;

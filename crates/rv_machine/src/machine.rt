@@ -11,6 +11,8 @@ use crate::memory::Memory;
 use crate::text::jumps_by_x5;
 
 mod run;
+#[cfg(test)]
+mod tests;
 
 use rv_table::effect::Event;
 use std::alloc::{AllocError, Global};

@@ -409,10 +409,7 @@ impl Memory {
         ensures { MatchOption result (loaded self.now access address size ≡ None) (λ bytes. loaded self.now access address size ≡ Some bytes.now) }
     {
         let i = self.find(access, address, size)?;
-        Some(
-            self.region(access, address, size, i)
-                .bytes(address, size),
-        )
+        Some(self.region(access, address, size, i).bytes(address, size))
     }
 
     /// Fills a buffer from a source, up to the source's end, and counts the bytes; `None` where no

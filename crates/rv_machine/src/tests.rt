@@ -13,9 +13,9 @@ use rv_table::effect::Event;
 use std::alloc::{AllocError, Global};
 use std::test::Fail;
 
-const BEFORE: [u32; 5] = [0x500002b7, 0x500013b7, 0x31028313, 0x0002b503, 0x0082b583];
+pub const BEFORE: [u32; 5] = [0x500002b7, 0x500013b7, 0x31028313, 0x0002b503, 0x0082b583];
 
-const AFTER: [u32; 12] = [
+pub const AFTER: [u32; 12] = [
     0x00c3b023, 0x01028293, 0x00838393, 0xfe6294e3, 0x00100513, 0x500015b7, 0x18800613, 0x04000893,
     0x00000073, 0x00000513, 0x05d00893, 0x00000073,
 ];
@@ -30,7 +30,7 @@ const EDGES: [u64; 7] = [
     0x00000000ffffffff,
 ];
 // An instruction on x10 and x11 that gives x12, and a checksum (64-bit FNV-1a) of the 49 results, computed apart.
-const CASES: [(u32, u64); 77] = [
+pub const CASES: [(u32, u64); 77] = [
     (0x00b50633, 0x97ad9a9249312c4a), // add x12, x10, x11
     (0x40b50633, 0x4b4ca5c1feef059e), // sub x12, x10, x11
     (0x00b51633, 0x68d57257dabddf77), // sll x12, x10, x11
@@ -147,7 +147,7 @@ fn data(alloc: Global, start: u64, bytes: &[u8]) -> Result<Range, AllocError>
     })
 }
 
-fn image(alloc: Global, words: &[u32], bytes: &[u8]) -> Result<ImageView, AllocError>
+pub fn image(alloc: Global, words: &[u32], bytes: &[u8]) -> Result<ImageView, AllocError>
     requires { length bytes.now ≤ 0x2000 }
     ensures { IfOk result (λ v. All BytesFit v.ranges.items) }
 {
@@ -163,7 +163,7 @@ fn image(alloc: Global, words: &[u32], bytes: &[u8]) -> Result<ImageView, AllocE
 }
 
 // How a run of at most so many steps ends, and what it gives.
-fn run(
+pub fn run(
     alloc: Global,
     view: &ImageView,
     steps: u64,
@@ -187,7 +187,7 @@ fn checksum(bytes: &[u8]) -> u64 {
     sum
 }
 
-fn pairs(alloc: Global) -> Result<Vec<u8>, AllocError> {
+pub fn pairs(alloc: Global) -> Result<Vec<u8>, AllocError> {
     let mut bytes = Vec::new(alloc);
     for a in EDGES {
         for b in EDGES {

@@ -28,7 +28,7 @@ returns-then-left-eq0-clause-is g c =
     let all : c.args.steps - left ≡ c.args.steps = omega arith in
     steps_out m c.args.steps (c.args.steps - left) c.advance-left.new.self.state c.loop-left.ended t0 t
     (running_down m c.args.steps c.loop-left.left c.advance-left.result c.loop-left.self.state c.advance-left.new.self.state c.loop-left.ended t0 t
-        c.loop-left.invariant.running c.advance-left.ensures.is c.advance-left.ensures.most c.loop-left.invariant.within)
+    c.loop-left.invariant.running c.advance-left.ensures.is c.advance-left.ensures.most c.loop-left.invariant.within)
     all c.loop-left.invariant.over
 
 pub returns-in-Some-clause-is : goal.returns-in-Some-clause-is
@@ -48,7 +48,7 @@ returns-in-Some-clause-is g c =
     let lists : c.advance-left.new.self ≡ record m { state = s } = c.advance-left.ensures.lists ∙ ap (λ (x : Loaded). record x { state = s }) c.loop-left.invariant.lists in
     stop_runs m c.args.steps (c.args.steps - left) s s' e e' t0 t t'
     (running_down m c.args.steps c.loop-left.left c.advance-left.result c.loop-left.self.state s e t0 t
-        c.loop-left.invariant.running c.advance-left.ensures.is c.advance-left.ensures.most c.loop-left.invariant.within)
+    c.loop-left.invariant.running c.advance-left.ensures.is c.advance-left.ensures.most c.loop-left.invariant.within)
     before c.loop-left.invariant.over c.turn.ensures.over c.in-Some.stop
     (turned_on m c.advance-left.new.self (Some c.in-Some.stop) s s' e e' t t' lists c.in-Some.ensures.is)
 
@@ -69,7 +69,7 @@ loop-left-preserved g c =
     record {
       running = running_next m c.args.steps left s s' e e' t0 t t'
           (running_down m c.args.steps c.loop-left.left c.advance-left.result c.loop-left.self.state s e t0 t
-              c.loop-left.invariant.running c.advance-left.ensures.is c.advance-left.ensures.most c.loop-left.invariant.within)
+          c.loop-left.invariant.running c.advance-left.ensures.is c.advance-left.ensures.most c.loop-left.invariant.within)
           some within
           (turned_on m c.advance-left.new.self None s s' e e' t t' lists c.in_default.ensures.is);
       within = omega arith;
