@@ -1,19 +1,19 @@
 -- Ranges that share no address, and text that stays what it is over stores.
-use Rattle.std.proofs.Common.{◌≡◌, ◌≢◌, ℕ, zero, suc, ◌+◌, ◌-◌, ◌*◌, ◌<◌, ◌≤◌, Bool, true, false, ◌⊎◌, inl, inr, List, [], ◌∷◌, ◌++◌, length, take, drop, map, set, get_or, arith, ap, ◌∙◌, sym, subst, refl}
+use Rattle.std.proofs.Common.{◌≡◌, ◌≢◌, ℕ, zero, suc, ◌+◌, ◌-◌, ◌*◌, ◌<◌, ◌≤◌, Bool, true, false, ◌⊎◌, inl, inr, List, [], ◌∷◌, ◌++◌, length, map, set, arith, ap, ◌∙◌, sym, subst, refl}
 use Rattle.std.specs.Prelude.{◌&&◌, IfSome, Option, Some, option_map, option_and_then, position, slice_get, slice_range}
 use Rattle.std.specs.Int.{w32, from_le_bytes}
-use Rattle.std.proofs.lemmas.Option.{get_or_from_slice_get, slice_get-map}
+use Rattle.std.proofs.lemmas.Option.{get_or_from_slice_get}
 use Rattle.std.proofs.Math.Seq.{map-set_same}
 use Rattle.rv_table.specs.Table.{decoded}
-use Rattle.rv_table.specs.State.{Area, State, covers, overwritten, jumps_by_x5, listed, marked, executed, fetched, stepped}
+use Rattle.rv_table.specs.State.{Area, State, covers, listed, marked, executed, fetched, stepped}
 use Rattle.rv_table.specs.Areas.{Shape, shape, holds, IsApartFrom, AreApart}
 use Rattle.rv_table.specs.declared.inst.Inst.{Inst}
 use Rattle.rv_table.specs.declared.effect.Access.{Access}
 use Rattle.rv_table.specs.declared.effect.Access.TheVariants.{Execute}
 use Rattle.rv_table.specs.declared.effect.Event.{Event}
 use Rattle.rv_table.specs.declared.effect.Event.TheVariants.{Next}
-use Rattle.rv_table.proofs.Areas.{position_here, position_on, Inside, inside, overwritten_length}
-use Rattle.rv_table.proofs.Fetch.{apart_at, stepped_shown}
+use Rattle.rv_table.proofs.Areas.{position_here, position_on, Inside, inside}
+use Rattle.rv_table.proofs.Fetch.{stepped_shown}
 use Rattle.rv_machine.specs.Text.{IsFixedAt, IsEntry, AreFixed, Keeps}
 
 -- ---- the first range that covers an access depends on the shapes alone
@@ -27,10 +27,6 @@ first_step a address size r rs rest false e =
 first_by_shape : (a : Access) (address size : ℕ) (rs : List Area) → position (covers a address size) rs ≡ position (holds a address size) (map shape rs)
 first_by_shape a address size [] = refl
 first_by_shape a address size (r ∷ rs) = first_step a address size r rs (first_by_shape a address size rs) (covers a address size r) refl
-
-pub overwritten_shape : (r : Area) (address : ℕ) (bytes : List ℕ) → r.start ≤ address → address + length bytes ≤ r.start + length r.bytes → shape (overwritten r address bytes) ≡ shape r
-overwritten_shape r address bytes low high =
-    ap (λ (n : ℕ). record { start = r.start; size = n; readable = r.readable; writable = r.writable; executable = r.executable }) (overwritten_length r address bytes (record { low = low; high = high }))
 
 -- ---- where no two share an address, a range that covers an access is the first
 
@@ -46,7 +42,12 @@ both_inside r x a address size some h k apart =
     elim apart [ inl l ↦ omega arith | inr l ↦ omega arith ]
 
 apart_there : (r x : Area) (rs : List Area) (k : ℕ) → IsApartFrom (shape r) (map shape rs) → slice_get rs k ≡ Some x → (r.start + length r.bytes ≤ x.start) ⊎ (x.start + length x.bytes ≤ r.start)
-apart_there r x rs k apart e = apart_at (shape r) (shape x) (map shape rs) k apart (slice_get-map shape rs k ∙ ap (option_map shape) e)
+apart_there r x [] k apart e = cc
+apart_there r x (y ∷ rs) zero apart e =
+    let same : y ≡ x = cc in
+    let P : Area → Type 0 = λ z. (r.start + length r.bytes ≤ z.start) ⊎ (z.start + length z.bytes ≤ r.start) in
+    subst P same apart.0
+apart_there r x (y ∷ rs) (suc k) apart e = apart_there r x rs k apart.1 e
 
 module _ (a : Access) (address size : ℕ) (some : 0 < size) where
   sole_step : (r x : Area) (rs : List Area) (k : ℕ) → IsApartFrom (shape r) (map shape rs) → slice_get rs k ≡ Some x → covers a address size x ≡ true →

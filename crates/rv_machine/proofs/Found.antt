@@ -1,7 +1,7 @@
 -- What the first range that covers an access says.
-use Rattle.std.proofs.Common.{◌≡◌, ℕ, zero, suc, ◌+◌, ◌-◌, ◌<◌, ◌≤◌, Bool, true, false, List, [], ◌∷◌, length, set, get_or, ap, ◌∙◌, sym, subst, refl}
+use Rattle.std.proofs.Common.{◌≡◌, ℕ, suc, ◌+◌, ◌-◌, Bool, true, false, List, [], ◌∷◌, length, set, get_or, ap, ◌∙◌, sym, subst, refl}
 use Rattle.std.specs.Prelude.{nat_le, ◌&&◌, Option, Some, None, option_map, option_and_then, position, slice_get, slice_range}
-use Rattle.rv_table.specs.State.{Area, allows, covers, loaded, overwritten, filled}
+use Rattle.rv_table.specs.State.{Area, allows, covers, overwritten, filled}
 use Rattle.rv_table.specs.declared.effect.Access.{Access}
 use Rattle.rv_table.specs.declared.effect.Access.TheVariants.{Write}
 use Rattle.rv_table.proofs.Areas.{position_here, position_on, Inside, inside}

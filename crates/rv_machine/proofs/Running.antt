@@ -2,19 +2,19 @@
 use Rattle.std.proofs.Common.{◌≡◌, ℕ, zero, suc, ◌+◌, ◌-◌, ◌%◌, ◌^◌, ◌<◌, ◌≤◌, Bool, true, false, cond, List, [], ◌∷◌, ◌++◌, length, take, drop, map, Option, Some, None, eqb, arith, ap, ◌∙◌, sym, subst, refl, append_assoc}
 use Rattle.std.specs.Prelude.{IfSome, slice_get}
 use Rattle.std.proofs.lemmas.List.{length-append, append-nil, take-append-le}
-use Rattle.std.proofs.Math.Seq.{take-append_seam, drop-append_seam, take-append-add}
-use Rattle.odc_io.specs.Streams.{grown, shrunk, GrewByFront, AtEnd}
+use Rattle.std.proofs.Math.Seq.{drop-append_seam, take-append-add}
+use Rattle.odc_io.specs.Streams.{grown, shrunk, GrewByFront}
 use Rattle.odc_text.specs.Check.{number_of}
 use Rattle.odc_text.specs.Run.{End, exited, checked, trapped, going, Log, Entry, out, err, call}
-use Rattle.odc_text.specs.Steps.{After, on, over, Stand, stood, stood_after, one_more}
+use Rattle.odc_text.specs.Steps.{After, on, over, Stand, stood_after, one_more}
 use Rattle.rv_table.specs.State.{Area, State, Step, register, stepped}
 use Rattle.rv_table.specs.Run.{Site, Config, trap, answer, took, reading, read_areas, refused, read_called, written_bytes, wrote, write_called, system_called, stopped_at, call_made, acted, act, ran}
 use Rattle.rv_table.specs.declared.effect.Event.TheVariants.{Next, System, Break, AllocCall, Trap}
 use Rattle.rv_machine.specs.Hart.{Advances}
 use Rattle.rv_machine.specs.Machine.{Loaded}
-use Rattle.rv_machine.specs.Outside.{Told, Took, Front, out_bytes, err_bytes}
-use Rattle.rv_machine.specs.Runs.{at, begun, Whole, Part, Ends, Comes, RunsAs}
-use Rattle.rv_machine.specs.Turns.{Allows, IsEnded, StaysEnded, Went, Finished, Goes, Broke, Turned}
+use Rattle.rv_machine.specs.Outside.{Told, Took, out_bytes, err_bytes}
+use Rattle.rv_machine.specs.Runs.{at, begun, Whole, Part, Ends, RunsAs}
+use Rattle.rv_machine.specs.Turns.{Allows, IsEnded, Went, Broke, Turned}
 use Rattle.rv_machine.specs.declared.stop.Stop.{Stop}
 use Rattle.rv_machine.specs.declared.stop.Stop.TheVariants.{Exited, Checked, Trapped, StepsOut, ReadFault, WriteFault}
 use Rattle.rv_machine.proofs.Pieces.{took_none, took_more}

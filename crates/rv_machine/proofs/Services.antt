@@ -1,19 +1,19 @@
 -- The services of the system, whatever the log so far and whatever input follows.
-use Rattle.std.proofs.Common.{◌≡◌, ℕ, zero, suc, ◌+◌, ◌-◌, ◌%◌, ◌^◌, ◌<◌, ◌≤◌, Bool, true, false, cond, ◌⊎◌, inl, inr, List, [], ◌∷◌, ◌++◌, length, take, drop, map, min, eqb, ltb, Some, None, Option, Ok, Err, Result, arith, ap, ◌∙◌, sym, subst, refl}
+use Rattle.std.proofs.Common.{◌≡◌, ℕ, ◌+◌, ◌-◌, ◌%◌, ◌^◌, ◌<◌, ◌≤◌, Bool, true, false, cond, ◌⊎◌, inl, inr, List, [], ◌∷◌, ◌++◌, length, take, drop, map, min, eqb, ltb, Some, None, Option, Ok, Err, Result, arith, ap, ◌∙◌, sym, subst, refl}
 use Rattle.std.proofs.lemmas.Bool.Decides.{nat_tests}
 use Rattle.std.proofs.lemmas.Grind.{common_steps}
 use Rattle.std.proofs.lemmas.List.{length-append, length-take, append-nil}
 use Rattle.std.proofs.Math.Seq.{take-append_seam, drop-append_seam}
 use Rattle.odc_io.specs.Streams.{grown, GrewByFront}
 use Rattle.odc_io.specs.declared.traits.Failed.{Failed}
-use Rattle.odc_text.specs.Run.{End, Entry, trapped, exited, Log, out, err}
+use Rattle.odc_text.specs.Run.{Entry, trapped, exited, Log, out, err}
 use Rattle.odc_text.specs.Steps.{After, on, over}
 use Rattle.rv_table.specs.State.{Area, State, register, filled, loaded}
 use Rattle.rv_table.specs.Run.{Config, answer, took, reading, refused, read_called, written_bytes, wrote, write_called, system_called}
 use Rattle.rv_table.specs.declared.effect.Access.TheVariants.{Read}
 use Rattle.rv_machine.specs.Outside.{Told, told, Took, out_bytes, err_bytes}
 use Rattle.rv_machine.specs.Runs.{at}
-use Rattle.rv_machine.specs.Turns.{Allows, StaysEnded, FetchedAll, FetchedPart, WroteAll, WrotePart, NotWritten, Wrote, after_write, Went, Finished, Goes, Broke, Turned}
+use Rattle.rv_machine.specs.Turns.{FetchedAll, FetchedPart, Wrote, after_write, Went, Broke, Turned}
 use Rattle.rv_machine.specs.declared.stop.Stop.{Stop}
 use Rattle.rv_machine.specs.declared.stop.Stop.TheVariants.{Exited, Checked, Trapped, StepsOut, ReadFault, WriteFault}
 use Rattle.rv_machine.proofs.Pieces.{took_none}

@@ -1,16 +1,16 @@
 -- One instruction of the definition's run, by its event.
-use Rattle.std.proofs.Common.{◌≡◌, ℕ, ◌+◌, Bool, true, false, cond, List, [], ◌∷◌, ◌++◌, length, Option, Some, None, eqb, arith, ap, ◌∙◌, sym, subst, refl}
+use Rattle.std.proofs.Common.{◌≡◌, ℕ, ◌+◌, Bool, true, false, cond, List, [], ◌∷◌, ◌++◌, Option, Some, None, eqb, arith, ap, ◌∙◌, sym, subst, refl}
 use Rattle.std.specs.Prelude.{slice_get}
 use Rattle.odc_text.specs.Check.{number_of}
-use Rattle.odc_text.specs.Run.{End, checked, trapped, Log, call}
+use Rattle.odc_text.specs.Run.{checked, trapped, Log, call}
 use Rattle.odc_text.specs.Steps.{After, on, over}
 use Rattle.rv_table.specs.State.{State, register, stepped}
 use Rattle.rv_table.specs.Run.{Site, Config, call_made, system_called, stopped_at, acted, act}
 use Rattle.rv_table.specs.declared.effect.Event.TheVariants.{Next, System, Break, AllocCall, Trap}
-use Rattle.rv_machine.specs.Outside.{Told, out_bytes, err_bytes}
+use Rattle.rv_machine.specs.Outside.{Told}
 use Rattle.rv_machine.specs.Checks.{stop_at, check_stop}
 use Rattle.rv_machine.specs.Runs.{at}
-use Rattle.rv_machine.specs.Turns.{Went, Finished, Turned}
+use Rattle.rv_machine.specs.Turns.{Went, Turned}
 use Rattle.rv_machine.specs.declared.stop.Stop.{Stop}
 use Rattle.rv_machine.specs.declared.stop.Stop.TheVariants.{Checked, Trapped}
 use Rattle.rv_machine.proofs.Pieces.{took_none}

@@ -1,5 +1,5 @@
 -- How a run ends at EBREAK: the check's number is in register 10, the site's in register 11.
-use Rattle.std.specs.Prelude.{ℕ, ◌==◌, List, Option, Some, None, slice_get, if◌then◌else◌}
+use Rattle.std.specs.Prelude.{◌==◌, List, Option, Some, None, slice_get, if◌then◌else◌}
 use Rattle.odc_text.specs.Check.{number_of}
 use Rattle.rv_table.specs.State.{State, register}
 use Rattle.rv_table.specs.Run.{Site}

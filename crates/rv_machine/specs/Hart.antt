@@ -2,7 +2,7 @@
 use Rattle.std.specs.Prelude.{◌≡◌, ℕ, zero, suc, ◌<◌, Bool, true, false, List}
 use Rattle.rv_table.specs.State.{State, stepped}
 use Rattle.rv_table.specs.declared.effect.Effect.{Effect}
-use Rattle.rv_table.specs.declared.effect.Effect.TheVariants.{Put, Load, Store, Branch, Link, Pass, Ask, Stop}
+use Rattle.rv_table.specs.declared.effect.Effect.TheVariants.{Put, Load, Link}
 use Rattle.rv_table.specs.declared.effect.Event.{Event}
 use Rattle.rv_table.specs.declared.effect.Event.TheVariants.{Next, System, Break, AllocCall, Trap}
 

@@ -1,5 +1,5 @@
 -- A view of an image as the definition of the machine run takes it.
-use Rattle.std.specs.Prelude.{ℕ, ◌≤◌, List, map, All}
+use Rattle.std.specs.Prelude.{◌≤◌, map}
 use Rattle.std.specs.Vec.{vec_len}
 use Rattle.rv_machine.specs.declared.image.Range.{Range}
 use Rattle.rv_machine.specs.declared.image.ImageView.{ImageView}

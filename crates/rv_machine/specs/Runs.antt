@@ -1,6 +1,6 @@
 -- What a run of the machine comes to: the definition's run on some input, which is the source's where
 -- that is told.
-use Rattle.std.specs.Prelude.{◌≡◌, ℕ, ◌≤◌, List, [], Option, Some, None, IfSome}
+use Rattle.std.specs.Prelude.{◌≡◌, ℕ, ◌≤◌, List, [], IfSome}
 use Rattle.odc_io.specs.Streams.{grown, shrunk, GrewByFront}
 use Rattle.odc_text.specs.Run.{End, exited, checked, trapped, going, Log}
 use Rattle.odc_text.specs.Steps.{Stand}

@@ -3,7 +3,7 @@
 use Rattle.std.specs.Prelude.{◌≡◌, ℕ, ◌+◌, ◌<◌, ◌≤◌, Bool, true, false, List, [], ◌++◌, length, Option, Some, None, Result, Ok, Err, IfOk}
 use Rattle.odc_io.specs.Streams.{grown, GrewByFront, AtEnd}
 use Rattle.odc_io.specs.declared.traits.Failed.{Failed}
-use Rattle.odc_text.specs.Run.{End, exited, checked, trapped, going, Log}
+use Rattle.odc_text.specs.Run.{End, exited, checked, trapped, Log}
 use Rattle.odc_text.specs.Steps.{After, on, over}
 use Rattle.rv_table.specs.State.{Area, State, overwritten, filled}
 use Rattle.rv_table.specs.Run.{Config, answer, written_bytes}

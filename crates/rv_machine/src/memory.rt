@@ -154,7 +154,8 @@ impl Region {
 
     fn overwrite_at(&mut self, at: usize, bytes: &[u8])
         requires { at + length bytes.now ≤ length self.old.bytes }
-        ensures { self.new ≡ overwritten self.old (self.old.start + at) bytes.now }
+        ensures is { self.new ≡ overwritten self.old (self.old.start + at) bytes.now }
+        ensures shape { shape self.new ≡ shape self.old }
     {
         self.bytes[at..at + bytes.len()].copy_from_slice(bytes);
     }
@@ -162,7 +163,8 @@ impl Region {
     fn overwrite(&mut self, address: u64, bytes: &[u8])
         requires start { self.old.start ≤ address }
         requires end { address + length bytes.now ≤ self.old.start + length self.old.bytes }
-        ensures { self.new ≡ overwritten self.old address bytes.now }
+        ensures is { self.new ≡ overwritten self.old address bytes.now }
+        ensures shape { shape self.new ≡ shape self.old }
     {
         let at = (address - self.start) as usize;
         self.overwrite_at(at, bytes);

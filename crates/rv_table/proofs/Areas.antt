@@ -116,7 +116,7 @@ module _ (r : Area) (rs : List Area) (address size : ℕ) (bytes : List ℕ) whe
       out None = refl
       out (Some i) = inner i (slice_get rs i)
 
-pub overwritten_length : (r : Area) (address : ℕ) (bytes : List ℕ) → Inside r address (length bytes) → length (overwritten r address bytes).bytes ≡ length r.bytes
+overwritten_length : (r : Area) (address : ℕ) (bytes : List ℕ) → Inside r address (length bytes) → length (overwritten r address bytes).bytes ≡ length r.bytes
 overwritten_length r address bytes i =
     let low : r.start ≤ address = i.low in
     let high : address + length bytes ≤ r.start + length r.bytes = i.high in

@@ -66,7 +66,7 @@ act_break sites calls c h = act_plain sites calls c Ebreak h refl
 abbrev pub IsAway : (address size start end : ℕ) → Type 0
 IsAway address size start end = (address + size ≤ start) ⊎ (end ≤ address)
 
-pub apart_at : (r q : Shape) (rs : List Shape) (k : ℕ) → IsApartFrom r rs → slice_get rs k ≡ Some q → (r.start + r.size ≤ q.start) ⊎ (q.start + q.size ≤ r.start)
+apart_at : (r q : Shape) (rs : List Shape) (k : ℕ) → IsApartFrom r rs → slice_get rs k ≡ Some q → (r.start + r.size ≤ q.start) ⊎ (q.start + q.size ≤ r.start)
 apart_at r q [] k apart e = cc
 apart_at r q (p ∷ rs) zero apart e =
     let same : p ≡ q = cc in

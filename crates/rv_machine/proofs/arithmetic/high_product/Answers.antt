@@ -1,7 +1,6 @@
 -- The product of the signed values is exact.
-use Rattle.std.proofs.Common.{◌≡◌, ℕ, ◌/◌, ◌^◌, ap, ◌∙◌, ◌*ℤ◌, to_z, of_z}
+use Rattle.std.proofs.Common.{◌≡◌, ℕ, ◌/◌, ◌^◌, ap, ◌*ℤ◌, to_z, of_z}
 use Rattle.std.specs.Int.{w64, w128}
-use Rattle.rv_table.specs.Words.{high_product}
 use Rattle.rv_machine.proofs.Products.{product_is}
 use Rattle.rv_machine.proofs.arithmetic.high_product.Goals as goal
 

@@ -1,5 +1,5 @@
 -- One more of the others.
-use Rattle.std.proofs.Common.{◌≡◌, ℕ, suc, ◌+◌, ◌⊎◌, List, [], ◌∷◌, ◌++◌, length, take, map, get_or, add-one, ap, ◌∙◌, sym, subst}
+use Rattle.std.proofs.Common.{◌≡◌, ℕ, ◌+◌, List, [], ◌∷◌, ◌++◌, take, map, add-one, ap, ◌∙◌, sym, subst}
 use Rattle.std.proofs.Math.Seq.{take-suc}
 use Rattle.rv_table.specs.State.{Area}
 use Rattle.rv_table.specs.Areas.{shape, IsApartFrom}

@@ -1,6 +1,5 @@
 -- The range at the index that was found.
-use Rattle.std.proofs.Common.{◌≡◌, false, sym, ◌∙◌, ap, refl}
-use Rattle.std.specs.Prelude.{Some}
+use Rattle.std.proofs.Common.{sym, ◌∙◌, ap, refl}
 use Rattle.rv_table.specs.Table.{decoded}
 use Rattle.rv_table.specs.declared.effect.Access.TheVariants.{Execute}
 use Rattle.rv_machine.proofs.Found.{held, found_in}

@@ -1,5 +1,5 @@
 -- The instruction is the one that is fetched.
-use Rattle.std.proofs.Common.{◌≡◌, subst}
+use Rattle.std.proofs.Common.{subst}
 use Rattle.rv_table.specs.State.{State}
 use Rattle.rv_machine.specs.Text.{IsFixedAt}
 use Rattle.rv_machine.proofs.Fixed.{fixed_steps}

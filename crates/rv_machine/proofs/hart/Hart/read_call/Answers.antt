@@ -1,5 +1,5 @@
 -- Descriptor 0 is the input, another is refused.
-use Rattle.std.proofs.Common.{◌≡◌, ap, ◌∙◌, sym, false, eqb, arith}
+use Rattle.std.proofs.Common.{◌≡◌, ◌∙◌, sym, false, eqb, arith}
 use Rattle.std.proofs.lemmas.Bool.Decides.{nat_tests}
 use Rattle.rv_table.specs.State.{register}
 use Rattle.rv_table.specs.Run.{reading, read_called}

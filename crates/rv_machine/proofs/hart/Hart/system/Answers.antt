@@ -1,5 +1,5 @@
 -- The number of the service is in register 17.
-use Rattle.std.proofs.Common.{◌≡◌, ◌∙◌, sym}
+use Rattle.std.proofs.Common.{◌∙◌, sym}
 use Rattle.rv_table.specs.Run.{read_called, write_called, system_called}
 use Rattle.rv_machine.specs.Outside.{told}
 use Rattle.rv_machine.proofs.Services.{turned_as, calls_read, calls_write}

@@ -1,7 +1,6 @@
 -- Descriptors 1 and 2 are the outputs, another is refused.
-use Rattle.std.proofs.Common.{◌≡◌, ℕ, List, Option, Bool, false, eqb, ap, ◌∙◌, sym, subst, arith}
+use Rattle.std.proofs.Common.{◌≡◌, Option, false, eqb, ◌∙◌, sym, subst, arith}
 use Rattle.std.proofs.lemmas.Bool.Decides.{nat_tests}
-use Rattle.odc_text.specs.Run.{out, err}
 use Rattle.rv_table.specs.State.{register}
 use Rattle.rv_table.specs.Run.{write_called}
 use Rattle.rv_machine.specs.Outside.{told}

@@ -1,8 +1,7 @@
 -- The bytes of the buffer that the registers name.
-use Rattle.std.proofs.Common.{◌≡◌, ℕ, false, eqb, length, ap, ◌∙◌, arith}
+use Rattle.std.proofs.Common.{◌≡◌, false, eqb, arith}
 use Rattle.std.proofs.lemmas.Bool.Decides.{nat_tests}
 use Rattle.rv_table.specs.State.{State}
-use Rattle.rv_table.specs.Run.{answer}
 use Rattle.rv_machine.proofs.Services.{bytes_at}
 use Rattle.rv_machine.proofs.hart.Hart.write_output.Goals as goal
 

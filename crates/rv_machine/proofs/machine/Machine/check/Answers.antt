@@ -1,10 +1,9 @@
 -- The site that was found, and the check's number.
-use Rattle.std.proofs.Common.{◌≡◌, ℕ, Bool, true, false, cond, eqb, Option, Some, ap, ◌∙◌, sym, arith}
+use Rattle.std.proofs.Common.{◌≡◌, Bool, true, false, cond, eqb, Some, ap, ◌∙◌, sym, arith}
 use Rattle.std.proofs.lemmas.Bool.Decides.{nat_tests}
 use Rattle.std.specs.Prelude.{slice_get}
 use Rattle.odc_text.specs.Check.{number_of}
 use Rattle.rv_table.specs.State.{State, register}
-use Rattle.rv_table.specs.Run.{Site}
 use Rattle.rv_machine.specs.Machine.{Loaded}
 use Rattle.rv_machine.specs.Checks.{stop_at}
 use Rattle.rv_machine.specs.declared.stop.Stop.TheVariants.{Checked, Trapped}

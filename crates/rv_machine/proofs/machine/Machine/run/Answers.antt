@@ -1,8 +1,8 @@
 -- The run of the definition: instructions that are no events, and then one of any kind.
-use Rattle.std.proofs.Common.{◌≡◌, ℕ, ◌-◌, ◌<◌, ◌≤◌, false, None, Option, Some, ap, ◌∙◌, refl, arith}
+use Rattle.std.proofs.Common.{◌≡◌, ◌-◌, ◌<◌, ◌≤◌, false, None, Some, ap, ◌∙◌, refl, arith}
 use Rattle.rv_machine.specs.Machine.{Loaded}
 use Rattle.rv_machine.specs.Outside.{told}
-use Rattle.rv_machine.proofs.Running.{Running, running_first, running_at, running_down, running_next, steps_out, stop_runs, turned_on}
+use Rattle.rv_machine.proofs.Running.{running_first, running_at, running_down, running_next, steps_out, stop_runs, turned_on}
 use Rattle.rv_machine.proofs.machine.Machine.run.Goals as goal
 
 pub loop-left-init : goal.loop-left-init

@@ -1,11 +1,11 @@
 -- Each event of a step, as the definition takes it.
-use Rattle.std.proofs.Common.{◌≡◌, Some, Option, List, inl, inr, ap, ◌∙◌, sym, subst}
+use Rattle.std.proofs.Common.{◌≡◌, Some, List, inl, inr, ap, ◌∙◌, sym, subst}
 use Rattle.rv_table.specs.State.{State}
 use Rattle.rv_table.specs.Run.{Site, act}
 use Rattle.rv_table.specs.declared.effect.Event.{Event}
 use Rattle.rv_table.specs.declared.effect.Event.TheVariants.{System}
 use Rattle.rv_machine.specs.Machine.{Loaded}
-use Rattle.rv_machine.specs.Outside.{Told, told}
+use Rattle.rv_machine.specs.Outside.{told}
 use Rattle.rv_machine.specs.Checks.{check_stop}
 use Rattle.rv_machine.specs.Turns.{Turned}
 use Rattle.rv_machine.specs.declared.stop.Stop.{Stop}

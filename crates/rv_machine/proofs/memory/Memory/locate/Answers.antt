@@ -1,5 +1,5 @@
 -- Where no two ranges share an address, one that covers the access is the first.
-use Rattle.std.proofs.Common.{◌≡◌, ℕ, List, length, arith, ap, ◌∙◌, sym}
+use Rattle.std.proofs.Common.{◌≡◌, List, length, arith, ap, ◌∙◌, sym}
 use Rattle.std.specs.Prelude.{Some, position, slice_get}
 use Rattle.std.proofs.lemmas.Grind.{common_steps}
 use Rattle.std.proofs.lemmas.Option.{slice_get_read}

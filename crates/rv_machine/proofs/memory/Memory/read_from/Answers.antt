@@ -1,5 +1,5 @@
 -- The range at the index that was found is read into.
-use Rattle.std.proofs.Common.{◌≡◌, ℕ, List, Some, Option, Result, ap, sym, subst, ◌∙◌, set}
+use Rattle.std.proofs.Common.{◌≡◌, ℕ, Option, Result, sym, subst, ◌∙◌, set}
 use Rattle.rv_table.specs.declared.effect.Access.TheVariants.{Write}
 use Rattle.odc_io.specs.declared.traits.Failed.{Failed}
 use Rattle.rv_machine.specs.Turns.{Fetched}

@@ -1,6 +1,5 @@
 -- Each piece comes behind those before it.
-use Rattle.std.proofs.Common.{◌≡◌, ℕ, ◌+◌, ◌-◌, ◌≤◌, ◌<◌, List, length, [], ◌++◌, take, drop, Bool, false, arith, ap, sym, subst, refl}
-use Rattle.std.proofs.lemmas.List.{length-take}
+use Rattle.std.proofs.Common.{◌≡◌, ◌-◌, ◌≤◌, [], Bool, false, arith, ap, ◌∙◌, sym, subst, refl}
 use Rattle.rv_machine.specs.declared.memory.Region.{Region}
 use Rattle.rv_machine.proofs.Pieces.{Reading, took_none, overwritten_none, reading_more}
 use Rattle.rv_machine.proofs.memory.Region.read_from.Goals as goal
@@ -22,6 +21,7 @@ loop-count-init g c =
       place = omega arith;
       room = c.requires.end;
       counted = omega arith;
+      shape = refl;
     }
 
 pub loop-count-preserved : goal.loop-count-preserved
@@ -33,8 +33,9 @@ loop-count-preserved g c =
       reading = reading_more c.args.address c.args.size c.args.self.now c.loop-count.self (g.S.Source.rest c.args.input.now) (g.S.Source.rest c.loop-count.input) (g.S.Source.rest c.read_piece.new.input)
           c.args.ended.now c.loop-count.count (subst R ended r.reading) c.read_piece.new.piece c.in_ok-taken.taken (c.args.address - c.self.inside.start) c.overwrite_at.new.self
           c.in_ok-taken.ensures.within.1 (let b = c.in_ok-taken.ensures.within.0 in omega arith) c.in_ok-taken.ensures.bytes c.in_ok-taken.ensures.taken c.in_ok-taken.ensures.end
-          c.requires.start c.requires.end r.place c.overwrite_at.ensures;
+          c.requires.start c.requires.end r.place c.overwrite_at.ensures.is;
       place = r.place;
       room = r.room;
       counted = omega (arith, r.counted, c.read_piece.ensures.counted);
+      shape = c.overwrite_at.ensures.shape ∙ r.shape;
     }
