@@ -1,7 +1,6 @@
 -- From what the parts of a command tell to what the command answers.
-use Rattle.std.proofs.Common.{◌≡◌, ℕ, ◌+◌, ◌<◌, ◌≤◌, ◌⊎◌, inl, inr, List, [], ◌∷◌, ◌++◌, length, take, drop, arith, ap, ◌∙◌, sym, subst, refl, lit≤, lit<, take-take, take-append-drop, append_assoc, length-append}
+use Rattle.std.proofs.Common.{◌≡◌, ℕ, ◌+◌, ◌<◌, ◌≤◌, inl, inr, List, [], ◌∷◌, ◌++◌, length, take, drop, arith, ap, ◌∙◌, sym, subst, refl, lit≤, take-take, take-append-drop, append_assoc, length-append}
 use Rattle.std.specs.Prelude.{Option, Some, None, IfSome}
-use Rattle.std.proofs.lemmas.List.{append-nil}
 use Rattle.std.proofs.Math.Seq.{take-length, take-append-add}
 use Rattle.std.proofs.lemmas.List.{take-append-le}
 use Rattle.odc_text.specs.Run.{End, exited, checked, strayed, trapped, going}
@@ -9,11 +8,10 @@ use Rattle.odc_text.specs.Steps.{Stand}
 use Rattle.odc_io.specs.Streams.{grown, shrunk, GrewByFront}
 use Rattle.odc_io.proofs.GrownLemmas.{grown_twice}
 use Rattle.rv_table.specs.State.{State}
-use Rattle.rv_table.specs.Run.{Image, Config, ran, started, machine}
+use Rattle.rv_table.specs.Run.{Image, Config, ran, started}
 use Rattle.rv_machine.specs.Machine.{Loaded, loaded_from}
 use Rattle.rv_machine.specs.Outside.{Told, out_bytes, err_bytes}
-use Rattle.rv_machine.specs.Runs.{Whole, Part, Ends, Comes, RunsAs, begun}
-use Rattle.rv_machine.specs.declared.stop.Stop.{Stop}
+use Rattle.rv_machine.specs.Runs.{Whole, Part, Ends, begun}
 use Rattle.odc_tool.specs.declared.status.Status.{Status}
 use Rattle.odc_tool.specs.declared.status.Status.TheVariants.{Done, Exited, Refused, Usage, Stopped, StepsOut, Trapped, Strayed, BadImage, FolderFault, ReadFault, WriteFault, Memory, TurnsOut}
 use Rattle.odc_text.specs.declared.code.Fault.{Fault}
@@ -29,11 +27,11 @@ use Rattle.odc_tool.proofs.OneVerdict.{one_verdict}
 use Rattle.odc_tool.specs.declared.run.Failure.{Failure}
 use Rattle.odc_tool.specs.declared.run.Failure.TheVariants.{NoMemory}
 use Rattle.odc_tool.specs.Status.{line_of}
-use Rattle.odc_tool.specs.Telling.{IsFailure, status_of, Tells, TellsFront, TellsBy, TellsError, ErrorTellsBy}
+use Rattle.odc_tool.specs.Telling.{status_of, Tells, TellsBy, TellsError, ErrorTellsBy}
 use Rattle.odc_tool.specs.Verdict.{main_name}
-use Rattle.odc_tool.specs.Headline.{refusal, folder_fault, RunsOf, OnInput, AnswersOn, AnswersFolder, PackageCause, HasCause, IsRun, IsPackage, bad_words, Given, told_alone, default_steps, IsStatusOf, RunOf, Gave, GaveFront, Answers, GaveNothing}
+use Rattle.odc_tool.specs.Headline.{refusal, folder_fault, OnInput, AnswersOn, AnswersFolder, PackageCause, HasCause, IsRun, IsPackage, bad_words, Given, told_alone, default_steps, IsStatusOf, RunOf, Answers, GaveNothing}
 use Rattle.odc_tool.specs.Loading.{LoadedFor, AnswersImage, AnswersText, RunCause}
-use Rattle.odc_tool.proofs.TellingLemmas.{is_failure, grown_nothing, no_front}
+use Rattle.odc_tool.proofs.TellingLemmas.{is_failure, grown_nothing}
 use Rattle.odc_tool.proofs.NeverStrays.{IsSound, ran_sound}
 
 -- ---- what is told at two moments

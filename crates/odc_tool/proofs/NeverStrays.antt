@@ -1,11 +1,11 @@
 -- The machine never strays: its runs end with an exit, a check or a trap.
-use Rattle.std.proofs.Common.{◌≡◌, ℕ, zero, suc, Bool, true, false, cond, List, ap, refl}
+use Rattle.std.proofs.Common.{ℕ, zero, suc, Bool, true, false, cond, List}
 use Rattle.std.specs.Prelude.{Option, Some, None, ◌==◌, slice_get}
 use Rattle.odc_text.specs.Check.{number_of}
-use Rattle.odc_text.specs.Run.{End, exited, checked, strayed, trapped, going, Entry, out, err}
-use Rattle.odc_text.specs.Steps.{After, on, over, Stand, one_more, stood_after, stood}
-use Rattle.rv_table.specs.State.{Area, State, Step, stepped, register}
-use Rattle.rv_table.specs.Run.{Site, Config, act, acted, ran, took, reading, wrote, refused, read_called, write_called, system_called, stopped_at, written_bytes, read_areas}
+use Rattle.odc_text.specs.Run.{End, checked, strayed, Entry, out, err}
+use Rattle.odc_text.specs.Steps.{After, on, over, Stand, stood_after}
+use Rattle.rv_table.specs.State.{Area, State, stepped, register}
+use Rattle.rv_table.specs.Run.{Site, Config, act, acted, ran, took, reading, wrote, refused, read_called, write_called, system_called, stopped_at, written_bytes}
 use Rattle.rv_table.specs.declared.effect.Event.{Event}
 use Rattle.rv_table.specs.declared.effect.Event.TheVariants.{Next, System, Break, AllocCall, Trap}
 

@@ -1,5 +1,5 @@
 -- Lines on the error output, and what stands there when one of them fails.
-use Rattle.std.proofs.Common.{◌≡◌, ℕ, ◌≤◌, ◌⊎◌, inl, inr, List, [], ◌++◌, length, take, arith, ap, ◌∙◌, sym, subst, refl, lit≤}
+use Rattle.std.proofs.Common.{◌≡◌, ℕ, ◌≤◌, List, [], take, arith, ap, ◌∙◌, sym, subst, refl}
 use Rattle.std.specs.Prelude.{Option, Some, None}
 use Rattle.std.proofs.lemmas.List.{append-nil}
 use Rattle.odc_io.specs.Counts.{Rose}

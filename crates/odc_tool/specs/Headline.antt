@@ -5,10 +5,9 @@
 -- other package gives the machine run of an image that follows its source run (`RunsOf`). Where the
 -- outside or memory fails, fronts of these bytes were given, and the line of the failure after them
 -- (`Answers`).
-use Rattle.std.specs.Prelude.{◌≡◌, ◌⊎◌, ℕ, ◌≤◌, List, [], ◌∷◌, ◌++◌, length, take, IfSome, Option}
+use Rattle.std.specs.Prelude.{◌≡◌, ◌⊎◌, ℕ, ◌≤◌, List, [], ◌++◌, length, take, IfSome, Option}
 use Rattle.odc_text.specs.declared.code.Fault.{Fault}
 use Rattle.odc_text.specs.Run.{End, exited, checked, strayed, trapped, going}
-use Rattle.odc_io.specs.Counts.{Rose}
 use Rattle.odc_io.specs.Streams.{grown, shrunk, GrewByFront}
 use Rattle.odc_io.specs.Trees.{Tree as Files}
 use Rattle.rv_table.specs.Run.{Image, machine}

@@ -1,15 +1,12 @@
-use Rattle.std.proofs.Common.{ℕ, ap, ◌∙◌, sym, subst}
+use Rattle.std.proofs.Common.{ap, ◌∙◌, sym, subst}
 use Rattle.std.proofs.lemmas.Result.{IfOk-weaker}
 use Rattle.odc_typed.specs.Tree.{Whole}
-use Rattle.odc_typed.specs.View.{program}
 use Rattle.odc_typed.specs.Well.{IsWell}
 use Rattle.odc_typed.specs.Frame.{FramesFit}
 use Rattle.odc_build.specs.Kept.{KeptBy, FollowedBy}
 use Rattle.odc_build.specs.Layout.{image_of}
 use Rattle.rv_machine.specs.Machine.{loaded_from}
-use Rattle.odc_tool.specs.Typing.{typed}
 use Rattle.odc_tool.specs.View.{text}
-use Rattle.odc_tool.specs.Loading.{LoadedFor}
 use Rattle.odc_tool.proofs.WellLemmas.{typed_well, typed_fits}
 use Rattle.odc_tool.proofs.run.load_text.Goals as goal
 

@@ -1,10 +1,7 @@
-use Rattle.std.proofs.Common.{refl, subst, inr}
-use Rattle.rv_machine.specs.Outside.{told}
+use Rattle.std.proofs.Common.{refl, inr}
 use Rattle.odc_io.specs.Trees.{texts}
-use Rattle.odc_tool.specs.declared.status.Status.TheVariants.{Usage}
-use Rattle.odc_tool.specs.Headline.{Answers, bad_words}
-use Rattle.odc_tool.specs.Words.{word_at, command_of, dir_of}
-use Rattle.odc_tool.proofs.Answering.{bad_word_answers, no_bad_word, one_folder, usage_cause, run_cause, run_anew, is_run}
+use Rattle.odc_tool.specs.Words.{command_of, dir_of}
+use Rattle.odc_tool.proofs.Answering.{bad_word_answers, no_bad_word, usage_cause, run_cause, run_anew, is_run}
 use Rattle.odc_tool.proofs.run.run_tool.Goals as goal
 
 pub returns-in-Err-clause-usage : goal.returns-in-Err-clause-usage

@@ -1,4 +1,4 @@
-use Rattle.std.proofs.Common.{◌∙◌, ap, inl, inr, subst}
+use Rattle.std.proofs.Common.{◌∙◌, inl, inr, subst}
 use Rattle.odc_io.specs.Streams.{GrewByFront}
 use Rattle.odc_tool.specs.declared.run.Failure.TheVariants.{Write, NoMemory}
 use Rattle.odc_tool.specs.Status.{line_of}
