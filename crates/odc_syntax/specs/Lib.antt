@@ -25,6 +25,8 @@ pub mod Value
 -- trees
 pub mod Tree
 -- the operators that tokens stand for
+-- the clean tree of a tree
+pub mod View
 pub mod Operators
 -- the rules of the grammar
 pub mod Grammar

@@ -1,0 +1,4 @@
+pub mod Reaching
+pub mod Leading
+pub mod Chaining
+pub mod Nesting

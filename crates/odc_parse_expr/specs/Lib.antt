@@ -1,0 +1,2 @@
+-- what a parse function answers, and when that is right
+pub mod Exact
