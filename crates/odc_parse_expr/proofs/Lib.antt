@@ -2,3 +2,5 @@ pub mod Reaching
 pub mod Leading
 pub mod Chaining
 pub mod Nesting
+pub mod Opening
+pub mod Answering

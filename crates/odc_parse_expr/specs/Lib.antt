@@ -1,2 +1,6 @@
 -- what a parse function answers, and when that is right
 pub mod Exact
+-- what the results of the functions answer
+pub mod Read
+-- the kinds of tokens that parts begin with
+pub mod Sets
