@@ -1,12 +1,12 @@
 -- Left-nested parts: an item and tails behind it, each of which makes a node of all before it. The item
 -- that is read first sinks one level with each tail.
-use Rattle.std.proofs.Common.{◌≡◌, ℕ, suc, ◌+◌, ◌-◌, ◌*◌, ◌<◌, ◌≤◌, max, Bool, true, false, List, [], ◌∷◌, ◌++◌, length, refl, sym, ◌∙◌, ap, subst, arith, append_assoc, ◌⊎◌, inl, inr}
+use Rattle.std.proofs.Common.{◌≡◌, ℕ, suc, ◌-◌, ◌*◌, ◌<◌, ◌≤◌, max, Bool, true, List, [], ◌∷◌, ◌++◌, length, ap, subst, arith, ◌⊎◌, inl, inr}
 use Rattle.odc_syntax.specs.declared.token.Token.{Token}
 use Rattle.odc_syntax.specs.declared.token.TokenKind.{TokenKind}
-use Rattle.odc_syntax.specs.Grammar.{Sym, Rule}
-use Rattle.odc_syntax.specs.Derives.{Reach, here, read, read_said, see, see_not, see_no_member, write}
-use Rattle.odc_parse_expr.specs.Exact.{size, Clear, Part, one, ComesWith, ComesAt, Comes, Remains, Found, Broken, TooDeep}
-use Rattle.odc_parse_expr.proofs.Reaching.{along, moved, behind_part, IsPart}
+use Rattle.odc_syntax.specs.Grammar.{Sym}
+use Rattle.odc_syntax.specs.Derives.{Reach}
+use Rattle.odc_parse_expr.specs.Exact.{size, Clear, one, ComesAt, Comes, Remains, Found, Broken, TooDeep}
+use Rattle.odc_parse_expr.proofs.Reaching.{along, moved}
 
 -- The whole of bound c and value w is an item of bound d and value v with the tails q behind it.
 abbrev pub Spine : Type 0 → Type 1

@@ -1,14 +1,14 @@
 -- How the answers for the parts of a production make the answer for the whole. `Led` says how far a
 -- production has been read: what is read from the start of p and goes past the place of the rest goes
 -- through the symbols g that are still pending there, whose value u makes the whole f u.
-use Rattle.std.proofs.Common.{◌≡◌, ℕ, suc, ◌+◌, ◌-◌, ◌*◌, ◌<◌, ◌≤◌, max, Bool, true, false, List, [], ◌∷◌, ◌++◌, length, refl, sym, ◌∙◌, ap, subst, arith}
+use Rattle.std.proofs.Common.{◌≡◌, ℕ, suc, ◌-◌, ◌*◌, ◌<◌, ◌≤◌, max, Bool, List, ◌∷◌, ◌++◌, length, refl, sym, ◌∙◌, ap, subst, arith}
 use Rattle.odc_syntax.specs.declared.token.Token.{Token}
 use Rattle.odc_syntax.specs.declared.token.TokenKind.{TokenKind}
 use Rattle.odc_syntax.specs.declared.token.Word.{Word}
-use Rattle.odc_syntax.specs.Grammar.{Sym, tok, said, next, not_next, not_member, Rule}
-use Rattle.odc_syntax.specs.Derives.{Reach, here, read, read_said, see, see_not, see_no_member, write, StartsWithout, StartsNoMember}
-use Rattle.odc_parse_expr.specs.Exact.{size, Clear, Part, one, ComesWith, ComesAt, Comes, Remains, Found, Broken, TooDeep, then_, done, token, word}
-use Rattle.odc_parse_expr.proofs.Reaching.{along, behind_token, behind_said, behind_next, behind_not_next, behind_not_member}
+use Rattle.odc_syntax.specs.Grammar.{Sym}
+use Rattle.odc_syntax.specs.Derives.{Reach, here, read, read_said, StartsWithout}
+use Rattle.odc_parse_expr.specs.Exact.{size, Clear, Part, one, ComesAt, Comes, Found, Broken, TooDeep, then_, done, token, word}
+use Rattle.odc_parse_expr.proofs.Reaching.{along, behind_token, behind_said}
 
 -- how much deeper the whole is than its parts
 pub record Rises (up : ℕ → ℕ) : Type 0 where
@@ -50,10 +50,10 @@ comes_up {V} {p} {up} {ts} {left} {d} rises f = record {
   at = λ c h. let q = rises.pred d c h in subst (λ (m : ℕ). ComesAt p m ts left) (sym q.1.0) (f q.0 q.1.1);
 }
 
-first_is : {t t' : Token} {us us' : List Token} → t ∷ us ≡ t' ∷ us' → t' ≡ t
+pub first_is : {t t' : Token} {us us' : List Token} → t ∷ us ≡ t' ∷ us' → t' ≡ t
 first_is e = cc
 
-rest_is : {t t' : Token} {us us' : List Token} → t ∷ us ≡ t' ∷ us' → us' ≡ us
+pub rest_is : {t t' : Token} {us us' : List Token} → t ∷ us ≡ t' ∷ us' → us' ≡ us
 rest_is e = cc
 
 -- a token is read
@@ -193,7 +193,7 @@ part_deep {V} {U} {W} {p} {cont} {up} {b} {ts} {y} {cont'} g {f} {n} {left} {res
 }
 
 -- the token that must stand next does not
-without : (k : TokenKind) (t : Token) (us ts : List Token) → ts ≡ t ∷ us → t.kind ≡ k → StartsWithout k ts → ⊥
+pub without : (k : TokenKind) (t : Token) (us ts : List Token) → ts ≡ t ∷ us → t.kind ≡ k → StartsWithout k ts → ⊥
 without k t us ts e is h = let g : StartsWithout k (t ∷ us) = subst (λ l. StartsWithout k l) e h in g is
 
 pub token_missing : {V U : Type 0} {p : Part V} {cont : TokenKind → Bool} {up : ℕ → ℕ} {b : ℕ} {ts : List Token} (k : TokenKind) (g : Part U) {f : Token × U → V} {n : ℕ} {rest : List Token} →

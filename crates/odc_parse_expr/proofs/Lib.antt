@@ -1,6 +1,13 @@
+pub mod Samples
 pub mod Reaching
 pub mod Leading
 pub mod Chaining
 pub mod Nesting
 pub mod Opening
 pub mod Answering
+pub mod UnaryLemmas
+pub mod BinaryLemmas
+pub mod ChainLemmas
+pub mod PostfixLemmas
+pub mod SuffixLemmas
+pub mod ListLemmas

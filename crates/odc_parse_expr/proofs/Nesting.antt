@@ -1,16 +1,15 @@
 -- The two shapes of left-nested parts: with any number of tails, and with at most one.
-use Rattle.std.proofs.Common.{◌≡◌, ℕ, suc, ◌+◌, ◌*◌, ◌<◌, ◌≤◌, Bool, true, false, List, [], ◌∷◌, ◌++◌, length, refl, sym, ◌∙◌, ap, subst, arith, append_assoc, ◌⊎◌, inl, inr}
+use Rattle.std.proofs.Common.{◌≡◌, ℕ, suc, ◌*◌, ◌≤◌, true, List, [], ◌∷◌, ◌++◌, length, refl, sym, ◌∙◌, ap, subst, arith, append_assoc, ◌⊎◌, inl, inr}
 use Rattle.odc_syntax.specs.declared.token.Token.{Token}
-use Rattle.odc_syntax.specs.declared.token.TokenKind.{TokenKind}
 use Rattle.odc_syntax.specs.declared.grammar.Level.{Level}
-use Rattle.odc_syntax.specs.declared.grammar.Level.TheVariants.{Or, And, Comparison, Sum, Product}
+use Rattle.odc_syntax.specs.declared.grammar.Level.TheVariants.{Comparison}
 use Rattle.odc_syntax.specs.declared.grammar.Mode.{Mode}
 use Rattle.odc_syntax.specs.Tree.{Expr}
-use Rattle.odc_syntax.specs.Grammar.{Sym, Rule, chain, operation, item, postfix, operand, suffix, Operation, Suffix, operated, suffixed, chains, chain_one, chain_more, chain_twice, postfix_one, postfix_more}
+use Rattle.odc_syntax.specs.Grammar.{Sym, Rule, chain, operation, item, postfix, operand, suffix, Operation, operated, suffixed, chains, chain_one, chain_more, chain_twice, postfix_one, postfix_more}
 use Rattle.odc_syntax.specs.Derives.{Reach, here, read, read_said, see, see_not, see_no_member, write}
 use Rattle.odc_parse_expr.specs.Exact.{size}
 use Rattle.odc_parse_expr.proofs.Reaching.{moved, IsPart, behind_part}
-use Rattle.odc_parse_expr.proofs.Chaining.{Spine, FirstTail, NoTail, Unfolds, Chained}
+use Rattle.odc_parse_expr.proofs.Chaining.{FirstTail, NoTail, Unfolds, Chained}
 
 pub record MoreTail {V O : Type 0} (x : ℕ → V → Sym) (tail : ℕ → O → Sym) (grow : V → O → V) (c : ℕ) (w : V) (p : List Sym) : Type 0 where
   pub at : ℕ

@@ -1,12 +1,10 @@
 -- What a part of the grammar may begin with. A part that cannot begin with the next token reads nothing.
-use Rattle.std.proofs.Common.{◌≡◌, ℕ, suc, ◌+◌, ◌*◌, ◌≤◌, ◌==◌, Bool, true, false, ◌||◌, List, [], ◌∷◌, ◌++◌, length, refl, sym, ◌∙◌, ap, subst, arith, Option, Some, None}
+use Rattle.std.proofs.Common.{◌≡◌, ℕ, ◌*◌, ◌≤◌, Bool, true, false, ◌||◌, List, [], ◌∷◌, ◌++◌, length, refl, sym, ◌∙◌, ap, arith, Some}
 use Rattle.odc_syntax.specs.declared.token.Token.{Token}
 use Rattle.odc_syntax.specs.declared.token.TokenKind.{TokenKind}
 use Rattle.odc_syntax.specs.declared.token.TokenKind.TheVariants as kind
 use Rattle.odc_syntax.specs.declared.grammar.Mode.{Mode}
 use Rattle.odc_syntax.specs.declared.grammar.Mode.TheVariants.{Free, Header, Start}
-use Rattle.odc_syntax.specs.declared.grammar.Use.{Use}
-use Rattle.odc_syntax.specs.declared.grammar.Use.TheVariants.{Plain, Parameter, Operand, OperandEnd}
 use Rattle.odc_syntax.specs.declared.grammar.Level.{Level}
 use Rattle.odc_syntax.specs.declared.grammar.Level.TheVariants as level
 use Rattle.odc_syntax.specs.declared.tree.BinaryOp.{BinaryOp}
@@ -17,7 +15,7 @@ use Rattle.odc_syntax.specs.Grammar.{Sym, Rule, tok, said, next, not_next, not_m
 use Rattle.odc_syntax.specs.Grammar as g
 use Rattle.odc_syntax.specs.Derives.{Reach, here, read, read_said, see, see_not, see_no_member, write}
 use Rattle.odc_parse_expr.specs.Exact.{size}
-use Rattle.odc_parse_expr.specs.Sets.{rank, has_rank, is_free, is_prefix, takes_braces, starts_constructed, starts_other_type, starts_type, starts_own, starts_operand, is_cast, starts_expression, starts_suffix, starts_labelled, starts_word, starts_statement, starts_variables, starts_named}
+use Rattle.odc_parse_expr.specs.Sets.{rank, has_rank, is_free, is_prefix, takes_braces, starts_constructed, starts_type, starts_operand, is_cast, starts_expression, starts_suffix, starts_labelled, starts_statement, starts_variables, starts_named}
 
 -- there is a first token, and its kind is among these
 abbrev pub First : (TokenKind → Bool) → List Token → Type 0
@@ -28,16 +26,16 @@ abbrev pub StartsWith : TokenKind → List Token → Type 0
 StartsWith k [] = ⊥
 StartsWith k (t ∷ ts) = t.kind ≡ k
 
-abbrev is_brace : Bool → TokenKind → Bool
+abbrev pub is_brace : Bool → TokenKind → Bool
 is_brace b kind.OpenBrace = b
 is_brace b _ = false
 
-abbrev is_body : TokenKind → Bool
+abbrev pub is_body : TokenKind → Bool
 is_body kind.OpenBrace = true
 is_body kind.Do = true
 is_body _ = false
 
-abbrev is_switch : TokenKind → Bool
+abbrev pub is_switch : TokenKind → Bool
 is_switch kind.Switch = true
 is_switch kind.Directive = true
 is_switch _ = false
@@ -91,6 +89,7 @@ wider a b (t ∷ ts) f h = f t.kind h
 left_or : (a b : Bool) → a ≡ true → (a || b) ≡ true
 left_or true b e = refl
 left_or false b e = cc
+
 right_or : (a b : Bool) → b ≡ true → (a || b) ≡ true
 right_or true b e = refl
 right_or false b e = e

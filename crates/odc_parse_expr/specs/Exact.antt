@@ -1,7 +1,7 @@
 -- What a function answers that reads a part of the grammar from the front of some tokens, and when that
 -- answer is right. A part is some pending symbols that depend on a bound of their depth and on the value
 -- that is read, as a tree. Places are counted as tokens left.
-use Rattle.std.specs.Prelude.{◌≡◌, ℕ, suc, ◌+◌, ◌*◌, ◌<◌, ◌≤◌, Bool, true, List, [], ◌∷◌, ◌++◌, length}
+use Rattle.std.specs.Prelude.{◌≡◌, ℕ, suc, ◌*◌, ◌<◌, ◌≤◌, Bool, true, List, [], ◌∷◌, ◌++◌, length}
 use Rattle.odc_syntax.specs.declared.token.Token.{Token}
 use Rattle.odc_syntax.specs.declared.token.TokenKind.{TokenKind}
 use Rattle.odc_syntax.specs.declared.token.Word.{Word}
@@ -98,3 +98,7 @@ token k c t = tok k t
 
 unfoldable pub word : TokenKind → Word → ℕ → Token → Sym
 word k w c t = said k w t
+
+-- one part behind another
+unfoldable pub behind : {V U : Type 0} → Part V → Part U → Part (V × U)
+behind p g c u = p c u.0 ++ g c u.1

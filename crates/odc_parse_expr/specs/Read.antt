@@ -1,9 +1,16 @@
 -- What the parse functions' results answer.
-use Rattle.std.specs.Prelude.{◌≡◌, ℕ, ◌<◌, Bool, true, false, List, [], ◌∷◌, ◌++◌, length, Result, Ok, Err, Option, Some, None}
+use Rattle.std.specs.Prelude.{◌≡◌, ℕ, Bool, false, List, [], ◌∷◌, length, Result, Ok, Err, Option, Some, None}
 use Rattle.std.specs.Borrow.{Bor}
 use Rattle.odc_syntax.specs.declared.token.Token.{Token}
 use Rattle.odc_syntax.specs.declared.token.TokenKind.{TokenKind}
 use Rattle.odc_syntax.specs.Derives.{StartsWithout}
+use Rattle.odc_syntax.specs.Operators.{operator_of, level_of, prefix_of}
+use Rattle.odc_syntax.specs.declared.tree.BinaryOp.{BinaryOp}
+use Rattle.odc_syntax.specs.declared.tree.UnaryOp.{UnaryOp}
+use Rattle.odc_syntax.specs.declared.token.TokenKind.TheVariants as kind
+use Rattle.odc_parse_expr.specs.declared.unary.UnaryForm.{UnaryForm}
+use Rattle.odc_parse_expr.specs.declared.unary.UnaryForm.TheVariants as form
+use Rattle.odc_syntax.specs.declared.grammar.Level.{Level}
 use Rattle.odc_parse_expr.specs.declared.stop.Stop.{Stop}
 use Rattle.odc_parse_expr.specs.declared.stop.Stop.TheVariants as stop
 use Rattle.odc_parse_expr.specs.Exact.{Answer, Yes, Syntax, Deep, NoMemory}
@@ -32,3 +39,17 @@ abbrev pub NotExpected : TokenKind → Bool → List Token → Stop → Type 0
 NotExpected k within ts (stop.Syntax left) = (left ≡ length ts) × StartsWithout k ts
 NotExpected k within ts (stop.Deep left) = IsThere k within ts left
 NotExpected k within ts stop.Memory = ⊥
+
+-- no operator of this level stands first
+abbrev pub NoOperator : Level → List Token → Type 0
+NoOperator l [] = Unit {0}
+NoOperator l (t ∷ ts) = (op : BinaryOp) → operator_of t.kind ≡ Some op → level_of op ≡ l → ⊥
+
+-- how a unary expression begins
+abbrev pub sign_form : Option UnaryOp → TokenKind → UnaryForm
+sign_form (Some op) k = form.Sign op
+sign_form None kind.Cast = form.Cast
+sign_form None _ = form.Operand
+
+abbrev pub unary_form : TokenKind → UnaryForm
+unary_form k = sign_form (prefix_of k) k

@@ -1,6 +1,5 @@
 -- Which kinds of tokens the parts of the grammar begin with, and which go on with a part.
-use Rattle.std.specs.Prelude.{◌≡◌, ℕ, ◌==◌, Bool, true, false, ◌||◌, ◌&&◌, List, [], ◌∷◌, Option, Some, None, nat_le}
-use Rattle.odc_syntax.specs.declared.token.Token.{Token}
+use Rattle.std.specs.Prelude.{ℕ, suc, ◌==◌, Bool, true, false, ◌||◌, Option, Some, None, nat_le}
 use Rattle.odc_syntax.specs.declared.token.TokenKind.{TokenKind}
 use Rattle.odc_syntax.specs.declared.token.TokenKind.TheVariants.{Name, Int, Rune, Text, Directive, Proc, Struct, Union, Enum, Distinct, Context, Cast, OrReturn, OpenParen, OpenBracket, OpenBrace, Dot, Caret, Dollar, If, For, Switch, Defer, Return, Break, Continue, Fallthrough, Ampersand}
 use Rattle.odc_syntax.specs.declared.tree.BinaryOp.{BinaryOp}
@@ -47,6 +46,7 @@ is_prefix None = false
 abbrev pub has_rank : ℕ → Option BinaryOp → Bool
 has_rank r (Some op) = rank (level_of op) == r
 has_rank r None = false
+
 abbrev pub has_rank_from : ℕ → Option BinaryOp → Bool
 has_rank_from r (Some op) = nat_le r (rank (level_of op))
 has_rank_from r None = false
@@ -140,3 +140,15 @@ starts_named u _ = false
 
 abbrev pub nothing_continues : TokenKind → Bool
 nothing_continues k = false
+
+-- the same of what the operators of a level stand between
+abbrev pub continues_item : Level → Mode → TokenKind → Bool
+continues_item l m k = starts_suffix m k || has_rank_from (suc (rank l)) (operator_of k)
+
+-- how much the functions that read a level may still call before they read a token
+abbrev pub weight : Level → ℕ
+weight level.Or = 15
+weight level.And = 12
+weight level.Comparison = 9
+weight level.Sum = 6
+weight level.Product = 3

@@ -1,8 +1,11 @@
-// The parser: from tokens to the trees of expressions, with the types, declarations and statements
-// that stand in them. It descends by the rules of the grammar, at most 200 nodes deep, and reads lists
-// and chains of operators by loops. It assumes nothing of the tokens. The layers above may rely on
-// getting the tree that the grammar gives, or the first token that nothing could go on with.
+// The ground of the parser: when what a function answers that reads a part of the grammar is right, and how
+// the answers for parts make the answer for the whole. A production is read symbol by symbol
+// (`proofs/Leading.antt`), a left-nested part item by item (`proofs/Chaining.antt`), a list up to its
+// closing token (`proofs/ListLemmas.antt`). The functions here say what tokens begin with and which
+// operators they are. It assumes nothing of the tokens. No function reads an expression yet.
 #![tactic(auto)]
 
+pub mod operators;
 pub mod stop;
 pub mod tokens;
+pub mod unary;
