@@ -1,4 +1,4 @@
-use Rattle.std.proofs.Common.{is_ok, refl, ◌∙◌, ap, ◌+◌, List, [], ◌∷◌, ◌++◌, length}
+use Rattle.std.proofs.Common.{is_ok, refl, ◌∙◌, ap, ◌+◌, [], ◌∷◌, ◌++◌, length}
 use Rattle.std.proofs.ResultArms.{chosen}
 use Rattle.odc_syntax.specs.declared.token.Token.{Token}
 use Rattle.odc_syntax.specs.Wording.{word_of}
