@@ -12,9 +12,9 @@ use Rattle.odc_parse_expr.specs.Read.{refused, NotExpected}
 use Rattle.odc_parse_expr.proofs.Reaching.{along, moved, IsPart, behind_part}
 use Rattle.odc_parse_expr.proofs.Leading.{Rises, same_depth, Pending, Led, led_token, part_broken, part_deep, token_missing, token_deep}
 use Rattle.odc_parse_expr.proofs.Opening.{Opens, reach_opens}
-use Rattle.odc_parse_expr.proofs.Chaining.{Spine, Chained, Chain, chain_broken, chain_tail_deep}
+use Rattle.odc_parse_expr.proofs.Chaining.{Spine, Chained, Chain, Unfolds, chain_broken, chain_tail_deep}
 
-moved_end : {a b : List Sym} {ts' : List Token} {s : List Sym} {ts : List Token} → a ≡ b → Reach a ts' s ts → Reach b ts' s ts
+pub moved_end : {a b : List Sym} {ts' : List Token} {s : List Sym} {ts : List Token} → a ≡ b → Reach a ts' s ts → Reach b ts' s ts
 moved_end {a} {b} {ts'} {s} {ts} e r = subst (λ (l : List Sym). Reach l ts' s ts) e r
 
 -- a production begins: the tokens leave no other
@@ -337,3 +337,67 @@ led_step {V} {U} {W} {p} {cont} {up} {b} {ts} {g} {f} {n} {rest} rest' h i sampl
       let z = only q.at q.value s s' ts' clear q.reach k in
       record { at = q.at; value = z.by; bound = q.bound; whole = q.whole ∙ ap f z.is; deep = q.deep; reach = z.reach };
 }
+
+-- the first item of a chain isn't read
+pub first_refused : {V : Type 0} (x item : ℕ → V → Sym) (spine : Spine V) {cont : TokenKind → Bool} (cont' : TokenKind → Bool) (b : ℕ) (ts : List Token) (e : Stop) →
+    ((c : ℕ) (w : V) (d : ℕ) (v : V) (q : List Sym) → spine c w d v q → (ts : List Token) (s : List Sym) → Reach (item d v ∷ (q ++ s)) ts (x c w ∷ s) ts) →
+    ((c : ℕ) (w : V) (s s' : List Sym) (ts' : List Token) → Reach s' ts' (x c w ∷ s) ts → size s' ts' ≤ 2 * length ts → Unfolds item spine s' ts' c w s ts) →
+    ((c : ℕ) (v : V) → spine c v c v []) →
+    ((c : ℕ) (w : V) (d : ℕ) (v : V) (q : List Sym) → spine c w d v q → d ≤ c) →
+    ((c : ℕ) (w : V) (d : ℕ) (v : V) (q s : List Sym) → spine c w d v q → Clear cont s → Clear cont' (q ++ s)) →
+    Exact (one item) cont' b ts (refused e) → Exact (one x) cont b ts (refused e)
+first_refused x item spine cont' b ts (stop.Syntax left) folds unfolds root below clears broken = record {
+  short = broken.short;
+  comes = record {
+    at = λ c h.
+        let a = broken.comes.at c h in
+        record {
+          value = a.value;
+          before = λ s.
+              let z = a.before s in
+              record { pending = z.pending; rest = z.rest; rest_is = z.rest_is; reach = along (folds c a.value c a.value [] (root c a.value) ts s) z.reach };
+        };
+  };
+  none = λ c w s s' ts' clear r h.
+      let k = broken.short in
+      let z = unfolds c w s s' ts' r (omega (arith, h, k)) in
+      broken.none z.at z.value (z.tails ++ s) s' ts' (clears c w z.at z.value z.tails s z.is clear) z.reach h;
+}
+first_refused x item spine cont' b ts (stop.Deep left) folds unfolds root below clears deep = record {
+  short = deep.short;
+  comes = record {
+    at = λ c h.
+        let a = deep.comes.at c h in
+        record {
+          value = a.value;
+          before = λ s.
+              let z = a.before s in
+              record { pending = z.pending; rest = z.rest; rest_is = z.rest_is; reach = along (folds c a.value c a.value [] (root c a.value) ts s) z.reach };
+        };
+  };
+  deep = λ c w s s' ts' clear r h.
+      let k = deep.short in
+      let z = unfolds c w s s' ts' r (omega (arith, h, k)) in
+      let d = deep.deep z.at z.value (z.tails ++ s) s' ts' (clears c w z.at z.value z.tails s z.is clear) z.reach h in
+      let e = below c w z.at z.value z.tails z.is in
+      omega (arith, d, e);
+  depth = deep.depth;
+  deeper = record {
+    at = λ c h.
+        let a = deep.deeper.at c h in
+        record {
+          value = a.value;
+          before = λ s.
+              let z = a.before s in
+              record { pending = z.pending; rest = z.rest; rest_is = z.rest_is; reach = along (folds c a.value c a.value [] (root c a.value) ts s) z.reach };
+        };
+  };
+}
+first_refused x item spine cont' b ts stop.Memory folds unfolds root below clears h = tt
+
+-- what may follow is wider
+pub wider_exact : {V : Type 0} (p : Part V) {a b : TokenKind → Bool} (d : ℕ) (ts : List Token) (r : Answer V) → ((s : List Sym) → Clear b s → Clear a s) → Exact p a d ts r → Exact p b d ts r
+wider_exact p d ts (Yes v n rest) f h = record { short = h.short; comes = h.comes; reads = h.reads; only = λ c w s s' ts' clear r k. h.only c w s s' ts' (f s clear) r k }
+wider_exact p d ts (Syntax left) f h = record { short = h.short; comes = h.comes; none = λ c w s s' ts' clear r k. h.none c w s s' ts' (f s clear) r k }
+wider_exact p d ts (Deep left) f h = record { short = h.short; comes = h.comes; deep = λ c w s s' ts' clear r k. h.deep c w s s' ts' (f s clear) r k; depth = h.depth; deeper = h.deeper }
+wider_exact p d ts NoMemory f h = tt

@@ -59,7 +59,7 @@ or_cases false b e = inr e
 item_ends : (l : Level) (m : Mode) (k : TokenKind) → continues_item l m k ≡ true → has_rank (rank l) (operator_of k) ≡ true → ⊥
 item_ends l m k c h = elim (or_cases (starts_suffix m k) _ c) [ inl s ↦ rank_is_some (rank l) k m (operator_of k) refl h s | inr r ↦ ranks_apart (rank l) (operator_of k) h r ]
 
-or_left : (a b : Bool) → a ≡ true → (a || b) ≡ true
+pub or_left : (a b : Bool) → a ≡ true → (a || b) ≡ true
 or_left true b e = refl
 or_left false b e = cc
 
@@ -92,7 +92,7 @@ has_its_rank l op None e f = cc
 pub operator_goes_on : (l : Level) (m : Mode) (k : TokenKind) (op : BinaryOp) → operator_of k ≡ Some op → level_of op ≡ l → continues l m k ≡ true
 operator_goes_on l m k op e f = or_right (starts_suffix m k) _ (rank_from_same (rank l) (operator_of k) (has_its_rank l op (operator_of k) e f))
 
-clear_narrow : {a b : TokenKind → Bool} {s : List Sym} → ((k : TokenKind) → a k ≡ true → b k ≡ true) → Clear b s → Clear a s
+pub clear_narrow : {a b : TokenKind → Bool} {s : List Sym} → ((k : TokenKind) → a k ≡ true → b k ≡ true) → Clear b s → Clear a s
 clear_narrow f clear = record { stops = λ t us s' ts' on r h. clear.stops t us s' ts' (f t.kind on) r h }
 
 -- nothing that goes on with an item is read by the tails behind it

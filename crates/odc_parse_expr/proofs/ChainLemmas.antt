@@ -1,5 +1,5 @@
 -- The loop over the operators of a level, and the one comparison.
-use Rattle.std.proofs.Common.{◌≡◌, ℕ, suc, ◌<◌, ◌≤◌, Bool, true, ◌||◌, List, ◌∷◌, ◌++◌, length, sym, ap, subst, arith, Some, max}
+use Rattle.std.proofs.Common.{Bool, List, Some, [], ap, arith, length, max, refl, subst, suc, sym, true, ℕ, ◌++◌, ◌<◌, ◌||◌, ◌∷◌, ◌≡◌, ◌≤◌}
 use Rattle.odc_syntax.specs.declared.token.Token.{Token}
 use Rattle.odc_syntax.specs.declared.token.TokenKind.{TokenKind}
 use Rattle.odc_syntax.specs.declared.grammar.Mode.{Mode}
@@ -9,15 +9,18 @@ use Rattle.odc_syntax.specs.declared.tree.BinaryOp.{BinaryOp}
 use Rattle.odc_syntax.specs.Operators.{operator_of, level_of}
 use Rattle.odc_syntax.specs.Tree.{Expr}
 use Rattle.odc_syntax.specs.Grammar.{Sym, later, chains, item, chain, operation, operated}
+use Rattle.odc_syntax.specs.Derives.{Reach}
+use Rattle.odc_syntax.specs.Grammar as g
+use Rattle.odc_syntax.specs.declared.grammar.Level.TheVariants as level
 use Rattle.odc_parse_expr.specs.declared.stop.Stop.{Stop}
-use Rattle.odc_parse_expr.specs.Exact.{Clear, one, Exact, Found, TooDeep}
+use Rattle.odc_parse_expr.specs.Exact.{Clear, one, Exact, Answer, Found, TooDeep, Remains}
 use Rattle.odc_parse_expr.specs.Read.{refused, NoOperator}
-use Rattle.odc_parse_expr.specs.Sets.{rank, has_rank_from, continues, continues_item}
+use Rattle.odc_parse_expr.specs.Sets.{starts_suffix, rank, has_rank_from, continues, continues_item}
 use Rattle.odc_parse_expr.proofs.Chaining.{Spine, Chain, Chained, chain_first, chain_more, chain_stop, chain_deep}
-use Rattle.odc_parse_expr.proofs.Nesting.{Many, root, Once, alone, chain_nested, many_chained, many_folds, many_unfolds, once_folds, once_unfolds}
-use Rattle.odc_parse_expr.proofs.Answering.{tail_refused, bound_is}
+use Rattle.odc_parse_expr.proofs.Nesting.{Many, root, Once, alone, Never, never, below, once_below, chain_nested, many_chained, many_folds, many_unfolds, once_folds, once_unfolds}
+use Rattle.odc_parse_expr.proofs.Answering.{tail_refused, bound_is, first_refused, wider_exact}
 use Rattle.odc_parse_expr.proofs.UnaryLemmas.{same_suffix}
-use Rattle.odc_parse_expr.proofs.BinaryLemmas.{many_clear, once_clear, operation_found, operation_refused, operation_begins, operation_stuck, operator_goes_on}
+use Rattle.odc_parse_expr.proofs.BinaryLemmas.{clear_narrow, many_clear, once_clear, operation_begins, operation_found, operation_refused, operation_stuck, operator_goes_on, or_left}
 
 later_item : (l : Level) (m : Mode) → continues_item l (later m) ≡ continues_item l m
 later_item l m = ap (λ (f : TokenKind → Bool). λ (k : TokenKind). f k || has_rank_from (suc (rank l)) (operator_of k)) (same_suffix m)
@@ -89,3 +92,35 @@ module _ (l : Level) (m : Mode) (spine after : Spine Expr) (chained : Chained (c
 
 pub operators_chained : (l : Level) (m : Mode) → chains l ≡ true → Chained (chain l m) (item l m) (operation l m) operated (Operators l m) (Operators l m)
 operators_chained l m e = many_chained (chain l m) (item l m) (operation l m) operated (chain_nested l m e)
+
+pub operators_refused : (l : Level) (m : Mode) → chains l ≡ true → (b : ℕ) (ts : List Token) (e : Stop) → Exact (one (item l m)) (continues_item l m) b ts (refused e) → Exact (one (chain l m)) (continues l m) b ts (refused e)
+operators_refused l m e b ts stop h =
+    let nested = chain_nested l m e in
+    first_refused (chain l m) (item l m) (Operators l m) (continues_item l m) b ts stop (many_folds (chain l m) (item l m) (operation l m) operated nested) (many_unfolds (chain l m) (item l m) (operation l m) operated nested) root
+    (below (chain l m) (item l m) (operation l m) operated nested) (many_clear l m e) h
+
+pub comparison_refused : (m : Mode) (b : ℕ) (ts : List Token) (e : Stop) → Exact (one (item Comparison m)) (continues_item Comparison m) b ts (refused e) → Exact (one (chain Comparison m)) (continues Comparison m) b ts (refused e)
+comparison_refused m b ts stop h = first_refused (chain Comparison m) (item Comparison m) (Comparisons m) (continues_item Comparison m) b ts stop (once_folds m) (once_unfolds m) alone (once_below m) (once_clear m) h
+
+at_never : {c : ℕ} {w : Expr} {d : ℕ} {v : Expr} {q s s' : List Sym} {ts' : List Token} {n : ℕ} {rest : List Token} → Never c w d v q → n ≤ d → Reach s' ts' (q ++ s) rest → Remains v n rest c w s s' ts'
+at_never (never c v) h r = record { value = refl; bound = h; reach = r }
+
+-- a whole comparison
+pub comparison_done : (m : Mode) (d : ℕ) (ts : List Token) (v : Expr) (n : ℕ) (rest : List Token) → ChainAt Comparison m Never d ts v n rest → Found (one (chain Comparison m)) (continues Comparison m) d ts v n rest
+comparison_done m d ts v n rest led = record {
+  short = led.short;
+  comes = led.comes;
+  reads = λ c h s. led.reads c h c v [] (never c v) s;
+  only = λ c w s s' ts' clear r h. let z = led.only c w s s' ts' clear r h in at_never z.is z.deep z.reach;
+}
+
+-- at the level that a match has found
+pub item_at : (l of : Level) (m : Mode) (d : ℕ) (ts : List Token) (r : Answer Expr) → l ≡ of → Exact (one (item of m)) (continues_item of m) d ts r → Exact (one (item l m)) (continues_item l m) d ts r
+item_at l of m d ts r e h = subst (λ (k : Level). Exact (one (item k m)) (continues_item k m) d ts r) (sym e) h
+
+pub chain_at : (l of : Level) (m : Mode) (d : ℕ) (ts : List Token) (r : Answer Expr) → l ≡ of → Exact (one (chain of m)) (continues of m) d ts r → Exact (one (chain l m)) (continues l m) d ts r
+chain_at l of m d ts r e h = subst (λ (k : Level). Exact (one (chain k m)) (continues k m) d ts r) (sym e) h
+
+pub product_item : (l : Level) (m : Mode) (d : ℕ) (ts : List Token) (r : Answer Expr) → l ≡ level.Product → Exact (one (g.unary m)) (starts_suffix m) d ts r → Exact (one (item l m)) (continues_item l m) d ts r
+product_item l m d ts r e h =
+    item_at l level.Product m d ts r e (wider_exact (one (g.unary m)) d ts r (λ s clear. clear_narrow (λ k on. or_left (starts_suffix m k) _ on) clear) h)

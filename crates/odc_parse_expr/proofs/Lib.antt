@@ -11,3 +11,6 @@ pub mod ChainLemmas
 pub mod PostfixLemmas
 pub mod SuffixLemmas
 pub mod ListLemmas
+pub mod ListRules
+pub mod BracketLemmas
+pub mod OperandLemmas

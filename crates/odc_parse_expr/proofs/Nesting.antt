@@ -31,7 +31,7 @@ pub data Many {V O : Type 0} (tail : ℕ → O → Sym) (grow : V → O → V) :
   grown : (c : ℕ) (w : V) (d : ℕ) (v : V) (q : List Sym) (o : O) → Many tail grow c w d v q → Many tail grow (suc c) (grow w o) d v (q ++ tail c o ∷ [])
 
 module _ {V O : Type 0} (x item : ℕ → V → Sym) (tail : ℕ → O → Sym) (grow : V → O → V) (rules : Nested x item tail grow) where
-  below : (c : ℕ) (w : V) (d : ℕ) (v : V) (q : List Sym) → Many tail grow c w d v q → d ≤ c
+  pub below : (c : ℕ) (w : V) (d : ℕ) (v : V) (q : List Sym) → Many tail grow c w d v q → d ≤ c
   below _ _ _ _ _ (root c v) = omega arith
   below _ _ _ _ _ (grown c w d v q o m) = let h = below c w d v q m in omega (arith, h)
 
@@ -183,3 +183,7 @@ module _ (m : Mode) where
   pub once_unfolds : {ts : List Token} (c : ℕ) (w : Expr) (s s' : List Sym) (ts' : List Token) → Reach s' ts' (of c w ∷ s) ts →
       size s' ts' ≤ 2 * length ts → Unfolds (item Comparison m) (Once by operated) s' ts' c w s ts
   once_unfolds c w s s' ts' r h = let z = behind_part tt r h in once_by c w z.as_symbols z.rule z.reach
+
+  pub once_below : (c : ℕ) (w : Expr) (d : ℕ) (v : Expr) (q : List Sym) → Once by operated c w d v q → d ≤ c
+  once_below _ _ _ _ _ (alone c v) = omega arith
+  once_below _ _ _ _ _ (with_one c v o) = omega arith

@@ -43,7 +43,7 @@ suffixes m = many_chained (postfix m) (operand m) (suffix m) suffixed (postfix_n
 begun : {m : Mode} {c : ℕ} {ts : List Token} {left : ℕ} (v : Suffix) → ((s : List Sym) → (p : List Sym) × ((us : List Token) × ((length us ≡ left) × Reach (p ++ s) us (suffix m c v ∷ s) ts))) → ComesAt (one (suffix m)) c ts left
 begun v f = record { value = v; before = λ s. let z = f s in record { pending = z.0 ++ s; rest = z.1.0; rest_is = z.1.1.0; reach = z.1.1.1 } }
 
-takes_free : (m : Mode) → takes_braces m ≡ true → later m ≡ Free
+pub takes_free : (m : Mode) → takes_braces m ≡ true → later m ≡ Free
 takes_free Free e = refl
 takes_free Header e = cc
 takes_free Start e = refl

@@ -21,7 +21,7 @@ brace_is : (b : Bool) (k : TokenKind) → is_brace b k ≡ true → k ≡ kind.O
 brace_is b kind.OpenBrace e = refl
 brace_is b _ e = cc
 
-abbrev suffix_kind : {m : Mode} {c : ℕ} {w : Suffix} {p : List Sym} → Rule (suffix m c w) p → TokenKind
+abbrev pub suffix_kind : {m : Mode} {c : ℕ} {w : Suffix} {p : List Sym} → Rule (suffix m c w) p → TokenKind
 suffix_kind suffix_select = kind.Dot
 suffix_kind suffix_assert = kind.Dot
 suffix_kind suffix_deref = kind.Caret
@@ -32,7 +32,7 @@ suffix_kind suffix_or_return = kind.OrReturn
 suffix_kind suffix_literal = kind.OpenBrace
 
 -- the kind of the token that each production begins with
-suffix_first : {m : Mode} {c : ℕ} {w : Suffix} {p : List Sym} (rule : Rule (suffix m c w) p) (s s' : List Sym) (ts' : List Token) (t : Token) (us : List Token) → Reach s' ts' (p ++ s) (t ∷ us) →
+pub suffix_first : {m : Mode} {c : ℕ} {w : Suffix} {p : List Sym} (rule : Rule (suffix m c w) p) (s s' : List Sym) (ts' : List Token) (t : Token) (us : List Token) → Reach s' ts' (p ++ s) (t ∷ us) →
     size s' ts' ≤ 2 * length (t ∷ us) → t.kind ≡ suffix_kind rule
 suffix_first suffix_select s s' ts' t us r h = reach_opens r h
 suffix_first suffix_assert s s' ts' t us r h = reach_opens r h
@@ -44,7 +44,7 @@ suffix_first suffix_or_return s s' ts' t us r h = reach_opens r h
 suffix_first (suffix_literal {m = m}) s s' ts' t us r h = brace_is (is_free (later m)) t.kind (reach_opens r h)
 
 -- what is left behind a token that was read
-at_rest : {s' : List Sym} {ts' : List Token} {k : TokenKind} {u t : Token} {s : List Sym} {us : List Token} (z : PastToken s' ts' k u s (t ∷ us)) → Reach s' ts' s us
+pub at_rest : {s' : List Sym} {ts' : List Token} {k : TokenKind} {u t : Token} {s : List Sym} {us : List Token} (z : PastToken s' ts' k u s (t ∷ us)) → Reach s' ts' s us
 at_rest {s'} {ts'} {s = s} z = subst (λ (l : List Token). Reach s' ts' s l) (rest_is z.is) z.reach
 
 -- `^`

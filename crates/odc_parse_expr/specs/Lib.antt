@@ -4,3 +4,5 @@ pub mod Exact
 pub mod Read
 -- the kinds of tokens that parts begin with
 pub mod Sets
+-- what an operand is, by its first token
+pub mod Forms
