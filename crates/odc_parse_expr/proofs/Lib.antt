@@ -14,3 +14,4 @@ pub mod ListLemmas
 pub mod ListRules
 pub mod BracketLemmas
 pub mod OperandLemmas
+pub mod Worked

@@ -6,3 +6,5 @@ pub mod Read
 pub mod Sets
 -- what an operand is, by its first token
 pub mod Forms
+-- the worked cases
+pub mod Worked

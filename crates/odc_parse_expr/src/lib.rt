@@ -5,6 +5,7 @@
 // operators they are. It assumes nothing of the tokens. No function reads an expression yet.
 #![tactic(auto)]
 
+pub mod laws;
 pub mod operand;
 pub mod operators;
 pub mod stop;
