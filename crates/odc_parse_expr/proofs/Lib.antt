@@ -15,3 +15,5 @@ pub mod ListRules
 pub mod BracketLemmas
 pub mod OperandLemmas
 pub mod Worked
+pub mod CutLemmas
+pub mod ArgsLemmas

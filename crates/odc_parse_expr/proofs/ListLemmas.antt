@@ -141,8 +141,7 @@ pub record Listed {V L : Type 0} (item : Part V) (list more : ℕ → L → Sym)
   pub more_cases : (c : ℕ) (w : L) (p : List Sym) → Rule (more c w) p → ((p ≡ []) × (w ≡ nil)) ⊎ ((t : Token) × (((p ≡ tok kind.Comma t ∷ []) × (w ≡ nil)) ⊎ Item item more cons c w (tok kind.Comma t ∷ []) p))
 
 module _ {V L : Type 0} (item : Part V) (list more : ℕ → L → Sym) (nil : L) (cons : V → L → L) (rules : Listed item list more nil cons) (any : V) (close : TokenKind) (not_comma : kind.Comma ≡ close → ⊥)
-    (closes : (c : ℕ) (v : V) (s : List Sym) (t : Token) (us : List Token) → t.kind ≡ close → OpensAll (item c v ++ s) (t ∷ us) → ⊥)
-    (reads_some : (c : ℕ) (v : V) → (y : Sym) × ((q : List Sym) × (item c v ≡ y ∷ q))) where
+    (closes : (c : ℕ) (v : V) (s : List Sym) (t : Token) (us : List Token) → t.kind ≡ close → OpensAll (item c v ++ s) (t ∷ us) → ⊥) where
   -- the list with the closing token, what is left of it behind an item, and an item with what is left
   abbrev pub Whole : Part (L × (Token × Unit {0}))
   Whole = then_ list (then_ (token close) done)
