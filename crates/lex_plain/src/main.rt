@@ -48,6 +48,7 @@ fn same_place(a: Place, b: Place) -> bool {
 
 fn same_token(a: &Token, b: &Token) -> bool {
     forms::number_of(a.kind) == forms::number_of(b.kind)
+        && a.word as u8 == b.word as u8
         && same_place(a.at, b.at)
         && a.from == b.from
         && a.to == b.to

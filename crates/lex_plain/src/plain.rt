@@ -1,7 +1,7 @@
 //! The tokens of a text by trying everything.
 
 use crate::forms::{Form, form_of};
-use odc_syntax::token::{Token, TokenKind, Tokens};
+use odc_syntax::token::{Token, TokenKind, Tokens, Word};
 use odc_text::place::{FileId, Place};
 use std::alloc::{AllocError, Global};
 
@@ -77,9 +77,23 @@ fn place(file: FileId, text: &[u8], at: usize) -> Place {
     Place { file, line, column }
 }
 
+fn word_of(kind: TokenKind, bytes: &[u8]) -> Word {
+    match (kind, bytes) {
+        (TokenKind::Name, b"int") => Word::Int,
+        (TokenKind::Directive, b"#soa") => Word::Soa,
+        (TokenKind::Directive, b"#partial") => Word::Partial,
+        (TokenKind::Directive, b"#type") => Word::Type,
+        (TokenKind::Directive, b"#caller_location") => Word::CallerLocation,
+        (TokenKind::Text, b"\"odin\"" | b"`odin`") => Word::Odin,
+        (TokenKind::Text, b"\"contextless\"" | b"`contextless`") => Word::Contextless,
+        _ => Word::Plain,
+    }
+}
+
 fn token(file: FileId, text: &[u8], kind: TokenKind, from: usize, to: usize) -> Token {
     Token {
         kind,
+        word: word_of(kind, text.get(from..to).unwrap_or(b"")),
         at: place(file, text, from),
         from: u32::try_from(from).unwrap_or(0),
         to: u32::try_from(to).unwrap_or(0),

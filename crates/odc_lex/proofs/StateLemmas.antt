@@ -5,6 +5,7 @@ use Rattle.odc_text.specs.declared.place.Place.{Place}
 use Rattle.odc_syntax.specs.declared.token.Token.{Token}
 use Rattle.odc_syntax.specs.declared.token.TokenKind.{TokenKind}
 use Rattle.odc_syntax.specs.Pieces.{Piece, token}
+use Rattle.odc_syntax.specs.Wording.{word_of}
 use Rattle.odc_syntax.specs.Lexes.{behind, ends_statement, joins_lines, innermost, at_newline, else_follows, is_else, tokens_of, open_behind, semicolon_behind}
 use Rattle.odc_lex.specs.declared.state.State.{State}
 use Rattle.odc_lex.specs.declared.state.Ending.{Ending}
@@ -29,14 +30,14 @@ owed_behind : (k : TokenKind) (open' : List TokenKind) (at : Place) (from : ℕ)
 owed_behind k open' at from ps = owed_by (ends_statement k) (joins_lines (innermost open')) (else_follows ps) at from ps refl
 
 pub token_total : (old new : State) (k : TokenKind) (w : List ℕ) →
-    new.tokens.items ≡ (old.tokens.items ++ before_token old.ending k) ++ record { kind = k; at = old.at; from = old.from; to = old.from + length w } ∷ [] →
+    new.tokens.items ≡ (old.tokens.items ++ before_token old.ending k) ++ record { kind = k; word = word_of k w; at = old.at; from = old.from; to = old.from + length w } ∷ [] →
     new.«open».items ≡ open_behind old.«open».items k →
     new.ending ≡ ending_behind k new.«open».items →
     new.at ≡ behind old.at w →
     new.from ≡ old.from + length w →
     (ps : List Piece) → total new ps ≡ total old (token k w ∷ ps)
 token_total old new k w items opened ending at from ps =
-    let t : Token = record { kind = k; at = old.at; from = old.from; to = old.from + length w } in
+    let t : Token = record { kind = k; word = word_of k w; at = old.at; from = old.from; to = old.from + length w } in
     let open' = open_behind old.«open».items k in
     let at' = behind old.at w in
     let from' = old.from + length w in

@@ -16,6 +16,7 @@ mod state;
 mod stretch;
 mod table;
 mod unit;
+mod wording;
 
 pub use error::LexError;
 pub use lexer::lex;

@@ -8,7 +8,8 @@ ghost use Rattle.odc_lex.specs.State.{Steps, HasRoom, before_token, before_end, 
 ghost use Rattle.odc_lex.specs.Piece.{piece_of};
 
 use crate::piece::Form;
-use odc_syntax::token::{Token, TokenKind, Tokens};
+use crate::wording::word_of;
+use odc_syntax::token::{Token, TokenKind, Tokens, Word};
 use odc_text::place::Place;
 use std::alloc::AllocError;
 
@@ -67,6 +68,7 @@ fn inserted(at: Place, from: u32) -> Token
 {
     Token {
         kind: TokenKind::Semicolon,
+        word: Word::Plain,
         at,
         from,
         to: from,
@@ -227,9 +229,11 @@ impl State {
     {
         let from = self.from;
         let to = from + bytes.len() as u32;
+        let word = word_of(kind, bytes);
         write_before_token(&mut self.tokens, self.ending, kind)?;
         self.tokens.push(Token {
             kind,
+            word,
             at: self.at,
             from,
             to,

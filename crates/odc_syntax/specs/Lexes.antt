@@ -6,6 +6,8 @@ use Rattle.odc_text.specs.declared.place.Place.{Place}
 use Rattle.odc_syntax.specs.declared.token.Token.{Token}
 use Rattle.odc_syntax.specs.declared.token.TokenKind.{TokenKind}
 use Rattle.odc_syntax.specs.declared.token.TokenKind.TheVariants.{Name, Int, Float, Rune, Text, Context, Break, Continue, Fallthrough, Return, OrReturn, Else, Dashes, Caret, Question, OpenParen, CloseParen, OpenBracket, CloseBracket, OpenBrace, CloseBrace, Semicolon}
+use Rattle.odc_syntax.specs.declared.token.Word.TheVariants.{Plain}
+use Rattle.odc_syntax.specs.Wording.{word_of}
 use Rattle.odc_syntax.specs.Pieces.{Piece, blank, newline, token, IsCut, NoPiece, spelled, ends_in_number}
 
 -- the place behind a byte: a newline ends its line, and columns count bytes
@@ -61,7 +63,7 @@ innermost open' = slice_get open' (length open' - 1)
 
 -- a semicolon that no byte writes
 abbrev pub inserted : Place → ℕ → Token
-inserted at from = record { kind = Semicolon; at = at; from = from; to = from }
+inserted at from = record { kind = Semicolon; word = Plain; at = at; from = from; to = from }
 
 -- the semicolon that a newline stands for, where one comes before the next token; the end of the text
 -- counts as a newline
@@ -93,7 +95,7 @@ tokens_of open' at from [] = []
 tokens_of open' at from (blank w ∷ ps) = tokens_of open' (behind at w) (from + length w) ps
 tokens_of open' at from (newline w ∷ ps) = tokens_of open' (behind at w) (from + length w) ps
 tokens_of open' at from (token k w ∷ ps) =
-    record { kind = k; at = at; from = from; to = from + length w }
+    record { kind = k; word = word_of k w; at = at; from = from; to = from + length w }
     ∷ (semicolon_behind k (open_behind open' k) (behind at w) (from + length w) ps
     ++ tokens_of (open_behind open' k) (behind at w) (from + length w) ps)
 

@@ -16,7 +16,19 @@ pub mod Signs
 pub mod Pieces
 -- what a piece is, by its first two bytes
 pub mod Classes
+-- what a token says beside its kind
+pub mod Wording
 -- places, semicolons, and the tokens of a text
 pub mod Lexes
 -- what integers, runes and strings stand for
 pub mod Value
+-- trees
+pub mod Tree
+-- the operators that tokens stand for
+-- the clean tree of a tree
+pub mod View
+pub mod Operators
+-- the rules of the grammar
+pub mod Grammar
+-- what derives, and what begins
+pub mod Derives

@@ -6,5 +6,7 @@
 // string from `specs/Value.antt`.
 #![tactic(auto)]
 
+pub mod grammar;
 pub mod laws;
 pub mod token;
+pub mod tree;

@@ -14,9 +14,32 @@ pub struct Tokens {
 #[derive(Clone, Copy)]
 pub struct Token {
     pub kind: TokenKind,
+    pub word: Word,
     pub at: Place,
     pub from: u32,
     pub to: u32,
+}
+
+/// What the bytes of a name, a directive or a string say, where a rule of the grammar asks for more
+/// than the kind.
+#[derive(Clone, Copy)]
+pub enum Word {
+    /// Anything else.
+    Plain,
+    /// The name `int`.
+    Int,
+    /// `#soa`
+    Soa,
+    /// `#partial`
+    Partial,
+    /// `#type`
+    Type,
+    /// `#caller_location`
+    CallerLocation,
+    /// The string `odin`, in double quotes or in backquotes, without an escape.
+    Odin,
+    /// The string `contextless`, written so.
+    Contextless,
 }
 
 /// What kind of token it is. What a name, a literal or a directive says is in its bytes.

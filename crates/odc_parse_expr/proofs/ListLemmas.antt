@@ -1,0 +1,354 @@
+-- Lists between commas, with a comma allowed at the end, up to a closing token: of arguments, fields,
+-- types, enumerators and parameters alike.
+use Rattle.std.proofs.Common.{◌≡◌, ℕ, ◌*◌, ◌<◌, ◌≤◌, Bool, true, false, List, [], ◌∷◌, ◌++◌, length, refl, sym, ◌∙◌, ap, subst, arith, append_assoc, ◌⊎◌, inl, inr, max}
+use Rattle.odc_syntax.specs.declared.token.Token.{Token}
+use Rattle.odc_syntax.specs.declared.token.TokenKind.{TokenKind}
+use Rattle.odc_syntax.specs.declared.token.TokenKind.TheVariants as kind
+use Rattle.odc_syntax.specs.Grammar.{Sym, tok, Rule}
+use Rattle.odc_syntax.specs.Derives.{Reach, here, read, write, StartsWithout}
+use Rattle.odc_parse_expr.specs.declared.stop.Stop.{Stop}
+use Rattle.odc_parse_expr.specs.declared.stop.Stop.TheVariants as stop
+use Rattle.odc_parse_expr.specs.Exact.{size, Clear, Part, then_, done, token, behind, Exact, Found, Broken, TooDeep}
+use Rattle.odc_parse_expr.specs.Read.{refused}
+use Rattle.odc_parse_expr.proofs.Opening.{OpensAll, reach_opens}
+use Rattle.odc_parse_expr.proofs.Reaching.{along, moved, IsPart, behind_part, behind_token}
+use Rattle.odc_parse_expr.proofs.Leading.{same_depth, Pending, Led, first_is, rest_is, without}
+use Rattle.odc_parse_expr.proofs.Samples as sample
+use Rattle.odc_parse_expr.proofs.Answering.{moved_end, Stepped, led_step, led_stuck, led_over}
+
+-- a part of several symbols is read, within a production of the same depth
+pub led_parts : {V U W : Type 0} {p : Part V} {cont cont' : TokenKind → Bool} {b : ℕ} {ts : List Token} {y : Part W} {g : Part U} {f : W × U → V} {n m : ℕ} {v : W} {rest rest' : List Token} →
+    Led p cont (λ n. n) b ts (behind y g) f n rest → n ≤ b → Found y cont' b rest v m rest' → ((c : ℕ) (u : U) (s : List Sym) → Clear cont' (g c u ++ s)) →
+    Led p cont (λ n. n) b ts g (λ u. f (v, u)) (max n m) rest'
+unfolding behind
+led_parts {V} {U} {W} {p} {cont} {cont'} {b} {ts} {y} {g} {f} {n} {m} {v} {rest} {rest'} l within found clears = record {
+  short = let h = l.short in let k = found.short in omega (arith, h, k);
+  sample = l.sample.1;
+  comes = record {
+    at = λ c h.
+        let a = found.comes.at c h in
+        record {
+          value = f (a.value, l.sample.1);
+          before = λ s.
+              let z = a.before (g c l.sample.1 ++ s) in
+              record {
+                pending = z.pending;
+                rest = z.rest;
+                rest_is = z.rest_is;
+                reach = along (l.reads c (a.value, l.sample.1) (omega (arith, within, h)) s) (moved (sym (append_assoc (y c a.value) (g c l.sample.1) s)) z.reach);
+              };
+        };
+  };
+  reads = λ c u h s. along (l.reads c (v, u) (omega (arith, h)) s) (moved (sym (append_assoc (y c v) (g c u) s)) (found.reads c (omega (arith, h)) (g c u ++ s)));
+  only = λ c w s s' ts' clear r h.
+      let k = found.short in
+      let q = l.only c w s s' ts' clear r (omega (arith, h, k)) in
+      let z = found.only q.at q.value.0 (g q.at q.value.1 ++ s) s' ts' (clears q.at q.value.1 s) (moved (append_assoc (y q.at q.value.0) (g q.at q.value.1) s) q.reach) h in
+      record {
+        at = q.at;
+        value = q.value.1;
+        bound = q.bound;
+        whole = q.whole ∙ ap (λ (x : W). f (x, q.value.1)) z.value;
+        deep = let d = q.deep in let e = z.bound in omega (arith, d, e);
+        reach = z.reach;
+      };
+}
+
+-- the same where it isn't read
+pub parts_refused : {V U W : Type 0} {p : Part V} {cont : TokenKind → Bool} (cont' : TokenKind → Bool) {b : ℕ} {ts : List Token} (y : Part W) (g : Part U) {f : W × U → V} {n : ℕ} {rest : List Token} (e : Stop) →
+    Led p cont (λ n. n) b ts (behind y g) f n rest → n ≤ b → Exact y cont' b rest (refused e) → ((c : ℕ) (u : U) (s : List Sym) → Clear cont' (g c u ++ s)) → Exact p cont b ts (refused e)
+unfolding behind
+parts_refused {V} {U} {W} {p} {cont} cont' {b} {ts} y g {f} {n} {rest} (stop.Syntax left) l within broken clears = record {
+  short = let h = l.short in let k = broken.short in omega (arith, h, k);
+  comes = record {
+    at = λ c h.
+        let a = broken.comes.at c h in
+        record {
+          value = f (a.value, l.sample.1);
+          before = λ s.
+              let z = a.before (g c l.sample.1 ++ s) in
+              record {
+                pending = z.pending;
+                rest = z.rest;
+                rest_is = z.rest_is;
+                reach = along (l.reads c (a.value, l.sample.1) (omega (arith, within, h)) s) (moved (sym (append_assoc (y c a.value) (g c l.sample.1) s)) z.reach);
+              };
+        };
+  };
+  none = λ c w s s' ts' clear r h.
+      let k = broken.short in
+      let q = l.only c w s s' ts' clear r (omega (arith, h, k)) in
+      broken.none q.at q.value.0 (g q.at q.value.1 ++ s) s' ts' (clears q.at q.value.1 s) (moved (append_assoc (y q.at q.value.0) (g q.at q.value.1) s) q.reach) h;
+}
+parts_refused {V} {U} {W} {p} {cont} cont' {b} {ts} y g {f} {n} {rest} (stop.Deep left) l within deep clears = record {
+  short = let h = l.short in let k = deep.short in omega (arith, h, k);
+  comes = record {
+    at = λ c h.
+        let a = deep.comes.at c h in
+        record {
+          value = f (a.value, l.sample.1);
+          before = λ s.
+              let z = a.before (g c l.sample.1 ++ s) in
+              record {
+                pending = z.pending;
+                rest = z.rest;
+                rest_is = z.rest_is;
+                reach = along (l.reads c (a.value, l.sample.1) (omega (arith, within, h)) s) (moved (sym (append_assoc (y c a.value) (g c l.sample.1) s)) z.reach);
+              };
+        };
+  };
+  deep = λ c w s s' ts' clear r h.
+      let k = deep.short in
+      let q = l.only c w s s' ts' clear r (omega (arith, h, k)) in
+      let d = deep.deep q.at q.value.0 (g q.at q.value.1 ++ s) s' ts' (clears q.at q.value.1 s) (moved (append_assoc (y q.at q.value.0) (g q.at q.value.1) s) q.reach) h in
+      let e = q.bound in
+      omega (arith, d, e);
+  depth = max n deep.depth;
+  deeper = record {
+    at = λ c h.
+        let a = deep.deeper.at c (omega (arith, h)) in
+        record {
+          value = f (a.value, l.sample.1);
+          before = λ s.
+              let z = a.before (g c l.sample.1 ++ s) in
+              record {
+                pending = z.pending;
+                rest = z.rest;
+                rest_is = z.rest_is;
+                reach = along (l.reads c (a.value, l.sample.1) (omega (arith, h)) s) (moved (sym (append_assoc (y c a.value) (g c l.sample.1) s)) z.reach);
+              };
+        };
+  };
+}
+parts_refused cont' y g stop.Memory l within h clears = tt
+
+pub record Item {V L : Type 0} (item : Part V) (more : ℕ → L → Sym) (cons : V → L → L) (c : ℕ) (w : L) (head p : List Sym) : Type 0 where
+  pub first : V
+  pub rest : L
+  pub value : w ≡ cons first rest
+  pub is : p ≡ head ++ (item c first ++ more c rest ∷ [])
+
+-- the rules of a list
+pub record Listed {V L : Type 0} (item : Part V) (list more : ℕ → L → Sym) (nil : L) (cons : V → L → L) : Type 0 where
+  pub list_part : (c : ℕ) (l : L) → IsPart (list c l)
+  pub more_part : (c : ℕ) (l : L) → IsPart (more c l)
+  pub none : (c : ℕ) → Rule (list c nil) []
+  pub some : (c : ℕ) (v : V) (l : L) → Rule (list c (cons v l)) (item c v ++ more c l ∷ [])
+  pub ended : (c : ℕ) → Rule (more c nil) []
+  pub comma : (c : ℕ) (t : Token) → Rule (more c nil) (tok kind.Comma t ∷ [])
+  pub again : (c : ℕ) (t : Token) (v : V) (l : L) → Rule (more c (cons v l)) (tok kind.Comma t ∷ (item c v ++ more c l ∷ []))
+  pub list_cases : (c : ℕ) (w : L) (p : List Sym) → Rule (list c w) p → ((p ≡ []) × (w ≡ nil)) ⊎ Item item more cons c w [] p
+  pub more_cases : (c : ℕ) (w : L) (p : List Sym) → Rule (more c w) p → ((p ≡ []) × (w ≡ nil)) ⊎ ((t : Token) × (((p ≡ tok kind.Comma t ∷ []) × (w ≡ nil)) ⊎ Item item more cons c w (tok kind.Comma t ∷ []) p))
+
+module _ {V L : Type 0} (item : Part V) (list more : ℕ → L → Sym) (nil : L) (cons : V → L → L) (rules : Listed item list more nil cons) (any : V) (close : TokenKind) (not_comma : kind.Comma ≡ close → ⊥)
+    (closes : (c : ℕ) (v : V) (s : List Sym) (t : Token) (us : List Token) → t.kind ≡ close → OpensAll (item c v ++ s) (t ∷ us) → ⊥) where
+  -- the list with the closing token, what is left of it behind an item, and an item with what is left
+  abbrev pub Whole : Part (L × (Token × Unit {0}))
+  Whole = then_ list (then_ (token close) done)
+
+  abbrev pub Left : Part (L × (Token × Unit {0}))
+  Left = then_ more (then_ (token close) done)
+
+  abbrev pub Next : Part (V × (L × (Token × Unit {0})))
+  Next = behind item Left
+
+  abbrev pub longer : V × (L × (Token × Unit {0})) → L × (Token × Unit {0})
+  longer u = (cons u.0 u.1.0, u.1.1)
+
+  regrouped : (a : List Sym) (x y : Sym) (s : List Sym) → (a ++ x ∷ []) ++ (y ∷ s) ≡ (a ++ (x ∷ y ∷ [])) ++ s
+  regrouped a x y s = append_assoc a (x ∷ []) (y ∷ s) ∙ sym (append_assoc a (x ∷ y ∷ []) s)
+
+  by_list : {s' : List Sym} {ts' : List Token} (ts : List Token) → StartsWithout close ts → (c : ℕ) (w : L × (Token × Unit {0})) (p : List Sym) (s : List Sym) →
+      ((p ≡ []) × (w.0 ≡ nil)) ⊎ Item item more cons c w.0 [] p → Reach s' ts' (p ++ (tok close w.1.0 ∷ s)) ts → size s' ts' ≤ 2 * length ts →
+      Pending (λ n. n) Next longer 0 ts c w s s' ts'
+  unfolding then_ token done behind
+  by_list ts open' c w p s (inl z) r h =
+      let y = behind_token (moved (ap (λ (q : List Sym). q ++ (tok close w.1.0 ∷ s)) z.0) r) h in
+      absurd (without close _ _ ts y.is y.kind open')
+  by_list ts open' c w p s (inr z) r h = record {
+    at = c;
+    value = (z.first, (z.rest, w.1));
+    bound = refl;
+    whole = ap (λ (l : L). (l, w.1)) z.value;
+    deep = omega arith;
+    reach = moved (ap (λ (q : List Sym). q ++ (tok close w.1.0 ∷ s)) z.is ∙ regrouped (item c z.first) (more c z.rest) (tok close w.1.0) s) r;
+  }
+
+  -- a first item stands here
+  pub list_open : (cont : TokenKind → Bool) (b : ℕ) (ts : List Token) → L → StartsWithout close ts → Led Whole cont (λ n. n) b ts Next longer 0 ts
+  unfolding then_ token done behind
+  list_open cont b ts some_list open' = record {
+    short = omega arith;
+    sample = (any, (some_list, (sample.token, tt)));
+    comes = record { at = λ c h. record { value = (some_list, (sample.token, tt)); before = λ s. record { pending = _; rest = ts; rest_is = refl; reach = here } } };
+    reads = λ c u h s. moved_end (regrouped (item c u.0) (more c u.1.0) (tok close u.1.1.0) s) (write (item c u.0 ++ more c u.1.0 ∷ []) (rules.some c u.0 u.1.0) here);
+    only = λ c w s s' ts' clear r h.
+        let z = behind_part (rules.list_part c w.0) r h in
+        by_list ts open' c w z.as_symbols s (rules.list_cases c w.0 z.as_symbols z.rule) z.reach h;
+  }
+
+  -- an empty list ends here
+  empty_by : {s' : List Sym} {ts' : List Token} (t : Token) (us : List Token) → t.kind ≡ close → (c : ℕ) (w : L × (Token × Unit {0})) (p : List Sym) (s : List Sym) →
+      ((p ≡ []) × (w.0 ≡ nil)) ⊎ Item item more cons c w.0 [] p → Reach s' ts' (p ++ (tok close w.1.0 ∷ s)) (t ∷ us) → size s' ts' ≤ 2 * length us →
+      Pending (λ n. n) done (λ u. (nil, (t, tt))) 0 us c w s s' ts'
+  unfolding then_ token done
+  empty_by {s'} {ts'} t us e c w p s (inl z) r h =
+      let y = behind_token (moved (ap (λ (q : List Sym). q ++ (tok close w.1.0 ∷ s)) z.0) r) (omega (arith, h)) in
+      record {
+        at = c;
+        value = tt;
+        bound = refl;
+        whole = (λ i. (z.1 i, ((first_is y.is) i, tt)));
+        deep = omega arith;
+        reach = subst (λ (l : List Token). Reach s' ts' s l) (rest_is y.is) y.reach;
+      }
+  empty_by t us e c w p s (inr z) r h =
+      absurd (closes c z.first (more c z.rest ∷ tok close w.1.0 ∷ s) t us e
+      (reach_opens (moved (ap (λ (q : List Sym). q ++ (tok close w.1.0 ∷ s)) z.is ∙ append_assoc (item c z.first) (more c z.rest ∷ []) (tok close w.1.0 ∷ s)) r) (omega (arith, h))))
+
+  pub list_empty : (cont : TokenKind → Bool) (b : ℕ) (t : Token) (us : List Token) → t.kind ≡ close → Led Whole cont (λ n. n) b (t ∷ us) done (λ u. (nil, (t, tt))) 0 us
+  unfolding then_ token done
+  list_empty cont b t us e = record {
+    short = omega arith;
+    sample = tt;
+    comes = record { at = λ c h. record { value = (nil, (t, tt)); before = λ s. record { pending = s; rest = us; rest_is = refl; reach = write [] (rules.none c) (read e here) } } };
+    reads = λ c u h s. write [] (rules.none c) (read e here);
+    only = λ c w s s' ts' clear r h.
+        let z = behind_part (rules.list_part c w.0) r (omega (arith, h)) in
+        empty_by t us e c w z.as_symbols s (rules.list_cases c w.0 z.as_symbols z.rule) z.reach h;
+  }
+
+  -- behind an item: the closing token
+  close_by : {s' : List Sym} {ts' : List Token} (t : Token) (us : List Token) → t.kind ≡ close → (c : ℕ) (w : L × (Token × Unit {0})) (p : List Sym) (s : List Sym) →
+      ((p ≡ []) × (w.0 ≡ nil)) ⊎ ((u : Token) × (((p ≡ tok kind.Comma u ∷ []) × (w.0 ≡ nil)) ⊎ Item item more cons c w.0 (tok kind.Comma u ∷ []) p)) →
+      Reach s' ts' (p ++ (tok close w.1.0 ∷ s)) (t ∷ us) → size s' ts' ≤ 2 * length us → Stepped done (λ u. (nil, (t, tt))) c w s s' ts' us
+  unfolding then_ token done
+  close_by {s'} {ts'} t us e c w p s (inl z) r h =
+      let y = behind_token (moved (ap (λ (q : List Sym). q ++ (tok close w.1.0 ∷ s)) z.0) r) (omega (arith, h)) in
+      record { by = tt; is = (λ i. (z.1 i, ((first_is y.is) i, tt))); reach = subst (λ (l : List Token). Reach s' ts' s l) (rest_is y.is) y.reach }
+  close_by t us e c w p s (inr (u, inl z)) r h =
+      let y : t.kind ≡ kind.Comma = reach_opens (moved (ap (λ (q : List Sym). q ++ (tok close w.1.0 ∷ s)) z.0) r) (omega (arith, h)) in
+      absurd (not_comma (sym y ∙ e))
+  close_by t us e c w p s (inr (u, inr z)) r h =
+      let y : t.kind ≡ kind.Comma = reach_opens (moved (ap (λ (q : List Sym). q ++ (tok close w.1.0 ∷ s)) z.is) r) (omega (arith, h)) in
+      absurd (not_comma (sym y ∙ e))
+
+  pub more_close : {V' : Type 0} {p : Part V'} {cont : TokenKind → Bool} {b : ℕ} {ts : List Token} {f : L × (Token × Unit {0}) → V'} {n : ℕ} (t : Token) (us : List Token) → t.kind ≡ close → n ≤ b →
+      Led p cont (λ n. n) b ts Left f n (t ∷ us) → Led p cont (λ n. n) b ts done (λ u. f (nil, (t, tt))) n us
+  unfolding then_ token done
+  more_close t us e within l =
+      led_step us done (λ u. (nil, (t, tt))) tt same_depth within (omega arith) (λ c w s. write [] (rules.ended c) (read e here))
+      (λ c u s s' ts' clear r h.
+      let z = behind_part (rules.more_part c u.0) r (omega (arith, h)) in
+      close_by t us e c u z.as_symbols s (rules.more_cases c u.0 z.as_symbols z.rule) z.reach h)
+      l
+
+  -- a comma, and the closing token behind it
+  trailing_by : {s' : List Sym} {ts' : List Token} (k t : Token) (us : List Token) → k.kind ≡ kind.Comma → t.kind ≡ close → (c : ℕ) (w : L × (Token × Unit {0})) (p : List Sym) (s : List Sym) →
+      ((p ≡ []) × (w.0 ≡ nil)) ⊎ ((u : Token) × (((p ≡ tok kind.Comma u ∷ []) × (w.0 ≡ nil)) ⊎ Item item more cons c w.0 (tok kind.Comma u ∷ []) p)) →
+      Reach s' ts' (p ++ (tok close w.1.0 ∷ s)) (k ∷ t ∷ us) → size s' ts' ≤ 2 * length us → Stepped done (λ u. (nil, (t, tt))) c w s s' ts' us
+  unfolding then_ token done
+  trailing_by k t us f e c w p s (inl z) r h =
+      let y : k.kind ≡ close = reach_opens (moved (ap (λ (q : List Sym). q ++ (tok close w.1.0 ∷ s)) z.0) r) (omega (arith, h)) in
+      absurd (not_comma (sym f ∙ y))
+  trailing_by {s'} {ts'} k t us f e c w p s (inr (u, inl z)) r h =
+      let y = behind_token (moved (ap (λ (q : List Sym). q ++ (tok close w.1.0 ∷ s)) z.0) r) (omega (arith, h)) in
+      let x = behind_token (subst (λ (l : List Token). Reach s' ts' (tok close w.1.0 ∷ s) l) (rest_is y.is) y.reach) (omega (arith, h)) in
+      record { by = tt; is = (λ i. (z.1 i, ((first_is x.is) i, tt))); reach = subst (λ (l : List Token). Reach s' ts' s l) (rest_is x.is) x.reach }
+  trailing_by {s'} {ts'} k t us f e c w p s (inr (u, inr z)) r h =
+      let y = behind_token (moved (ap (λ (q : List Sym). q ++ (tok close w.1.0 ∷ s)) z.is) r) (omega (arith, h)) in
+      absurd (closes c z.first (more c z.rest ∷ tok close w.1.0 ∷ s) t us e
+      (reach_opens (moved (append_assoc (item c z.first) (more c z.rest ∷ []) (tok close w.1.0 ∷ s))
+      (subst (λ (l : List Token). Reach s' ts' ((item c z.first ++ more c z.rest ∷ []) ++ (tok close w.1.0 ∷ s)) l) (rest_is y.is) y.reach)) (omega (arith, h))))
+
+  pub more_trailing : {V' : Type 0} {p : Part V'} {cont : TokenKind → Bool} {b : ℕ} {ts : List Token} {f : L × (Token × Unit {0}) → V'} {n : ℕ} (k t : Token) (us : List Token) → k.kind ≡ kind.Comma → t.kind ≡ close → n ≤ b →
+      Led p cont (λ n. n) b ts Left f n (k ∷ t ∷ us) → Led p cont (λ n. n) b ts done (λ u. f (nil, (t, tt))) n us
+  unfolding then_ token done
+  more_trailing k t us e f within l =
+      led_step us done (λ u. (nil, (t, tt))) tt same_depth within (omega arith) (λ c w s. write _ (rules.comma c k) (read e (read f here)))
+      (λ c u s s' ts' clear r h.
+      let z = behind_part (rules.more_part c u.0) r (omega (arith, h)) in
+      trailing_by k t us e f c u z.as_symbols s (rules.more_cases c u.0 z.as_symbols z.rule) z.reach h)
+      l
+
+  -- a comma, and a further item
+  again_by : {s' : List Sym} {ts' : List Token} (k : Token) (us : List Token) → k.kind ≡ kind.Comma → StartsWithout close us → (c : ℕ) (w : L × (Token × Unit {0})) (p : List Sym) (s : List Sym) →
+      ((p ≡ []) × (w.0 ≡ nil)) ⊎ ((u : Token) × (((p ≡ tok kind.Comma u ∷ []) × (w.0 ≡ nil)) ⊎ Item item more cons c w.0 (tok kind.Comma u ∷ []) p)) →
+      Reach s' ts' (p ++ (tok close w.1.0 ∷ s)) (k ∷ us) → size s' ts' ≤ 2 * length us → Stepped Next longer c w s s' ts' us
+  unfolding then_ token done behind
+  again_by k us f open' c w p s (inl z) r h =
+      let y : k.kind ≡ close = reach_opens (moved (ap (λ (q : List Sym). q ++ (tok close w.1.0 ∷ s)) z.0) r) (omega (arith, h)) in
+      absurd (not_comma (sym f ∙ y))
+  again_by {s'} {ts'} k us f open' c w p s (inr (u, inl z)) r h =
+      let y = behind_token (moved (ap (λ (q : List Sym). q ++ (tok close w.1.0 ∷ s)) z.0) r) (omega (arith, h)) in
+      let x = behind_token (subst (λ (l : List Token). Reach s' ts' (tok close w.1.0 ∷ s) l) (rest_is y.is) y.reach) h in
+      absurd (without close _ _ us x.is x.kind open')
+  again_by {s'} {ts'} k us f open' c w p s (inr (u, inr z)) r h =
+      let y = behind_token (moved (ap (λ (q : List Sym). q ++ (tok close w.1.0 ∷ s)) z.is) r) (omega (arith, h)) in
+      record {
+        by = (z.first, (z.rest, w.1));
+        is = ap (λ (l : L). (l, w.1)) z.value;
+        reach = moved (regrouped (item c z.first) (more c z.rest) (tok close w.1.0) s)
+            (subst (λ (l : List Token). Reach s' ts' ((item c z.first ++ more c z.rest ∷ []) ++ (tok close w.1.0 ∷ s)) l) (rest_is y.is) y.reach);
+      }
+
+  pub more_again : {V' : Type 0} {p : Part V'} {cont : TokenKind → Bool} {b : ℕ} {ts : List Token} {f : L × (Token × Unit {0}) → V'} {n : ℕ} (k : Token) (us : List Token) → k.kind ≡ kind.Comma → StartsWithout close us → n ≤ b →
+      Led p cont (λ n. n) b ts Left f n (k ∷ us) → Led p cont (λ n. n) b ts Next (λ u. f (longer u)) n us
+  unfolding then_ token done behind
+  more_again k us e open' within l =
+      led_step us Next longer (any, (nil, (sample.token, tt))) same_depth within (omega arith)
+      (λ c w s. moved_end (regrouped (item c w.0) (more c w.1.0) (tok close w.1.1.0) s) (write _ (rules.again c k w.0 w.1.0) (read e here)))
+      (λ c u s s' ts' clear r h.
+      let z = behind_part (rules.more_part c u.0) r (omega (arith, h)) in
+      again_by k us e open' c u z.as_symbols s (rules.more_cases c u.0 z.as_symbols z.rule) z.reach h)
+      l
+
+  -- neither a comma nor the closing token
+  stuck_by : {s' : List Sym} {ts' : List Token} (rest : List Token) → StartsWithout kind.Comma rest → StartsWithout close rest → (c : ℕ) (w : L × (Token × Unit {0})) (p : List Sym) (s : List Sym) →
+      ((p ≡ []) × (w.0 ≡ nil)) ⊎ ((u : Token) × (((p ≡ tok kind.Comma u ∷ []) × (w.0 ≡ nil)) ⊎ Item item more cons c w.0 (tok kind.Comma u ∷ []) p)) →
+      Reach s' ts' (p ++ (tok close w.1.0 ∷ s)) rest → size s' ts' ≤ 2 * length rest → ⊥
+  stuck_by rest f open' c w p s (inl z) r h = let y = behind_token (moved (ap (λ (q : List Sym). q ++ (tok close w.1.0 ∷ s)) z.0) r) h in without close _ _ rest y.is y.kind open'
+  stuck_by rest f open' c w p s (inr (u, inl z)) r h = let y = behind_token (moved (ap (λ (q : List Sym). q ++ (tok close w.1.0 ∷ s)) z.0) r) h in without kind.Comma _ _ rest y.is y.kind f
+  stuck_by rest f open' c w p s (inr (u, inr z)) r h = let y = behind_token (moved (ap (λ (q : List Sym). q ++ (tok close w.1.0 ∷ s)) z.is) r) h in without kind.Comma _ _ rest y.is y.kind f
+
+  pub more_broken : {V' : Type 0} {p : Part V'} {cont : TokenKind → Bool} {b : ℕ} {ts : List Token} {f : L × (Token × Unit {0}) → V'} {n : ℕ} {rest : List Token} → StartsWithout kind.Comma rest → StartsWithout close rest →
+      Led p cont (λ n. n) b ts Left f n rest → Broken p cont b ts (length rest)
+  unfolding then_ token done
+  more_broken {rest = rest} f open' l =
+      led_stuck (λ c u s s' ts' clear r h.
+      let z = behind_part (rules.more_part c u.0) r h in
+      stuck_by rest f open' c u z.as_symbols s (rules.more_cases c u.0 z.as_symbols z.rule) z.reach h) l
+
+  -- either of them, where what was read is too deep
+  pub more_deep : {V' : Type 0} {p : Part V'} {cont : TokenKind → Bool} {b : ℕ} {ts : List Token} {f : L × (Token × Unit {0}) → V'} {n : ℕ} {rest : List Token} (t : Token) (us : List Token) → rest ≡ t ∷ us →
+      (t.kind ≡ kind.Comma) ⊎ (t.kind ≡ close) → b < n → Led p cont (λ n. n) b ts Left f n rest → TooDeep p cont b ts (length us)
+  unfolding then_ token done
+  more_deep {rest = rest} t us is (inl e) over l =
+      led_over same_depth is over (λ c. ((nil, (sample.token, tt)), λ s. (tok close sample.token ∷ s, subst (λ (r : List Token). Reach (tok close sample.token ∷ s) us (more c nil ∷ tok close sample.token ∷ s) r) (sym is) (write _ (rules.comma c t) (read e here))))) l
+  more_deep {rest = rest} t us is (inr e) over l =
+      led_over same_depth is over (λ c. ((nil, (t, tt)), λ s. (s, subst (λ (r : List Token). Reach s us (more c nil ∷ tok close t ∷ s) r) (sym is) (write [] (rules.ended c) (read e here))))) l
+
+  -- what goes on with an item is read neither by the comma nor by the closing token
+  not_left : {s' : List Sym} {ts' : List Token} (cont : TokenKind → Bool) (t : Token) (us : List Token) → cont kind.Comma ≡ false → cont close ≡ false → cont t.kind ≡ true → (c : ℕ) (w : L × (Token × Unit {0})) (p : List Sym) (s : List Sym) →
+      ((p ≡ []) × (w.0 ≡ nil)) ⊎ ((u : Token) × (((p ≡ tok kind.Comma u ∷ []) × (w.0 ≡ nil)) ⊎ Item item more cons c w.0 (tok kind.Comma u ∷ []) p)) →
+      Reach s' ts' (p ++ (tok close w.1.0 ∷ s)) (t ∷ us) → size s' ts' ≤ 2 * length (t ∷ us) → ⊥
+  not_left cont t us comma closing on c w p s (inl z) r h =
+      let y : t.kind ≡ close = reach_opens (moved (ap (λ (q : List Sym). q ++ (tok close w.1.0 ∷ s)) z.0) r) h in
+      let bad : true ≡ false = sym on ∙ ap cont y ∙ closing in
+      cc
+  not_left cont t us comma closing on c w p s (inr (u, inl z)) r h =
+      let y : t.kind ≡ kind.Comma = reach_opens (moved (ap (λ (q : List Sym). q ++ (tok close w.1.0 ∷ s)) z.0) r) h in
+      let bad : true ≡ false = sym on ∙ ap cont y ∙ comma in
+      cc
+  not_left cont t us comma closing on c w p s (inr (u, inr z)) r h =
+      let y : t.kind ≡ kind.Comma = reach_opens (moved (ap (λ (q : List Sym). q ++ (tok close w.1.0 ∷ s)) z.is) r) h in
+      let bad : true ≡ false = sym on ∙ ap cont y ∙ comma in
+      cc
+
+  pub left_clear : (cont : TokenKind → Bool) → cont kind.Comma ≡ false → cont close ≡ false → (c : ℕ) (u : L × (Token × Unit {0})) (s : List Sym) → Clear cont (Left c u ++ s)
+  unfolding then_ token done
+  left_clear cont comma closing c u s = record {
+    stops = λ t us s' ts' on r h.
+        let z = behind_part (rules.more_part c u.0) r (omega (arith, h)) in
+        not_left cont t us comma closing on c u z.as_symbols s (rules.more_cases c u.0 z.as_symbols z.rule) z.reach (omega (arith, h));
+  }

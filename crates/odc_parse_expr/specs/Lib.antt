@@ -1,0 +1,10 @@
+-- what a parse function answers, and when that is right
+pub mod Exact
+-- what the results of the functions answer
+pub mod Read
+-- the kinds of tokens that parts begin with
+pub mod Sets
+-- what an operand is, by its first token
+pub mod Forms
+-- the worked cases
+pub mod Worked
