@@ -1,0 +1,17 @@
+pub mod Encoding
+pub mod Flat
+pub mod Steps
+pub mod Numbers
+pub mod Ranges
+pub mod Words
+pub mod Ties
+pub mod Sims
+pub mod Jumps
+pub mod Services
+pub mod Calls
+pub mod Enters
+pub mod Values
+pub mod Returns
+pub mod Runs
+pub mod Placed
+pub mod Begin
