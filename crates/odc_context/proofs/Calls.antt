@@ -43,7 +43,7 @@ use Rattle.odc_text.specs.declared.check.Check.TheVariants.{Stack}
 
 -- ---- what is found
 
-mapped_get : (ps : List Proc) (f : ℕ) (p : Proc) → slice_get ps f ≡ Some p → slice_get (map crossed ps) f ≡ Some (crossed p)
+pub mapped_get : (ps : List Proc) (f : ℕ) (p : Proc) → slice_get ps f ≡ Some p → slice_get (map crossed ps) f ≡ Some (crossed p)
 mapped_get [] f p e = cc
 mapped_get (q ∷ ps) zero p e = let same : q ≡ p = cc in ap (λ (x : Proc). Some (crossed x)) same
 mapped_get (q ∷ ps) (suc f) p e = mapped_get ps f p e
@@ -68,20 +68,20 @@ signed (q ∷ ps) zero k r e = record { p = q; is = refl; parameters = ap (λ (x
     results_of None = 0
 signed (q ∷ ps) (suc f) k r e = let rest : Signed ps f k r = signed ps f k r e in record { p = rest.p; is = rest.is; parameters = rest.parameters; results = rest.results }
 
-well_at : (ss : List Signature) (ps : List Proc) (f : ℕ) (p : Proc) → AllWell ss ps → slice_get ps f ≡ Some p → IsWellProc ss p
+pub well_at : (ss : List Signature) (ps : List Proc) (f : ℕ) (p : Proc) → AllWell ss ps → slice_get ps f ≡ Some p → IsWellProc ss p
 well_at ss [] f p h e = cc
 well_at ss (q ∷ ps) zero p h e = let same : q ≡ p = cc in subst (IsWellProc ss) same h.0
 well_at ss (q ∷ ps) (suc f) p h e = well_at ss ps f p h.1 e
 
 -- both sides make the same stack check
-room_same : (base size : ℕ) → base ≤ 2 ^ 31 → source_room base size ≡ has_room base size
+pub room_same : (base size : ℕ) → base ≤ 2 ^ 31 → source_room base size ≡ has_room base size
 room_same base size h = by (has_room base size) refl
   where
     by : (b : Bool) → has_room base size ≡ b → source_room base size ≡ b
     by true e = let fits : 0x7800_0000 + size ≤ base = grind (arith, nat_tests) in grind (arith, nat_tests)
     by false e = let over : base < 0x7800_0000 + size = grind (arith, nat_tests) in grind (arith, nat_tests)
 
-room_fits : (base size : ℕ) → has_room base size ≡ true → 0x7800_0000 + size ≤ base
+pub room_fits : (base size : ℕ) → has_room base size ≡ true → 0x7800_0000 + size ≤ base
 room_fits base size e = grind (arith, nat_tests)
 
 module _ (entries : ℕ → ℕ) (ps : List Proc) (all_well : AllWell (signatures ps) ps) where

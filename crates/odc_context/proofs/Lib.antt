@@ -21,3 +21,5 @@ pub mod Bodies
 pub mod Procs
 pub mod Activation
 pub mod Calls
+pub mod Grows
+pub mod Whole
