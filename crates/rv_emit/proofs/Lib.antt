@@ -1,4 +1,5 @@
 pub mod Encoding
+pub mod Appends
 pub mod Flat
 pub mod Steps
 pub mod Numbers
@@ -15,3 +16,5 @@ pub mod Returns
 pub mod Runs
 pub mod Placed
 pub mod Begin
+pub mod Fronts
+pub mod Fitting

@@ -144,7 +144,7 @@ listed_parts : (calls xs ys : List ℕ) → AreListed calls (xs ++ ys) → AreLi
 listed_parts calls [] ys h = (tt, h)
 listed_parts calls (x ∷ xs) ys h = let rest = listed_parts calls xs ys h.1 in ((h.0, rest.0), rest.1)
 
-few_sites : (s : MidStep) → length (step_sites s) ≤ step_size s
+pub few_sites : (s : MidStep) → length (step_sites s) ≤ step_size s
 few_sites (Const to v) = omega arith
 few_sites (Address to of) = omega arith
 few_sites (Move to u) = omega arith
@@ -161,11 +161,11 @@ few_sites (Return u) = omega arith
 few_sites (CheckStep u which source) = omega arith
 few_sites (System asked) = omega arith
 
-few_steps_sites : (ss : List MidStep) → length (steps_sites ss) ≤ steps_size ss
+pub few_steps_sites : (ss : List MidStep) → length (steps_sites ss) ≤ steps_size ss
 few_steps_sites [] = omega arith
 few_steps_sites (s ∷ ss) = let rest : length (steps_sites ss) ≤ steps_size ss = few_steps_sites ss in omega (arith, rest, few_sites s, length-append (step_sites s) (steps_sites ss))
 
-before_small : (ss : List MidStep) (i : ℕ) → size_before ss i ≤ steps_size ss
+pub before_small : (ss : List MidStep) (i : ℕ) → size_before ss i ≤ steps_size ss
 before_small ss zero = omega arith
 before_small [] (suc i) = omega arith
 before_small (s ∷ ss) (suc i) = let rest : size_before ss i ≤ steps_size ss = before_small ss i in omega (arith, rest)
@@ -326,7 +326,7 @@ slots_proc [] f p h e = cc
 slots_proc (x ∷ ps) zero p h e = let same : x ≡ p = cc in let P : Proc → Type 0 = λ y. HasSlots y in subst P same h.0
 slots_proc (x ∷ ps) (suc f) p h e = slots_proc ps f p h.1 e
 
-before_all : (ps : List Proc) (f : ℕ) → procs_before ps f ≤ procs_size ps
+pub before_all : (ps : List Proc) (f : ℕ) → procs_before ps f ≤ procs_size ps
 before_all ps zero = omega arith
 before_all [] (suc f) = omega arith
 before_all (p ∷ ps) (suc f) = let rest : procs_before ps f ≤ procs_size ps = before_all ps f in omega (arith, rest)

@@ -1,11 +1,15 @@
 -- The ranges of an executable: the text, the store, the two regions, and the stack.
-use Rattle.std.specs.Prelude.{ℕ, length, ◌+◌, ◌-◌, ◌*◌, ◌/◌, ◌^◌, ◌≤◌, true, false, List, [], ◌∷◌}
+use Rattle.std.specs.Prelude.{ℕ, length, slice_get, get_or, ◌<◌, ◌+◌, ◌-◌, ◌*◌, ◌/◌, ◌^◌, ◌≤◌, true, false, List, [], ◌∷◌}
 use Rattle.rv_table.specs.Run.{Range, Image}
 use Rattle.odc_core.specs.Frames.{store_low, heap_low, heap_size, temp_low, temp_size, stack_low}
 use Rattle.odc_mid.specs.Tree.{Proc, Whole}
+use Rattle.odc_mid.specs.declared.tree.Named.{Named}
+use Rattle.odc_mid.specs.declared.tree.Named.TheVariants.{Variable as OfVariable, Stored, Procedure}
 use Rattle.odc_mid.specs.declared.tree.MidStep.{MidStep}
-use Rattle.odc_mid.specs.declared.tree.MidStep.TheVariants.{Call, CallValue}
-use Rattle.rv_emit.specs.Code.{text_start, sites_of, calls_of, procs_size, start_size, variables_end}
+use Rattle.odc_mid.specs.declared.tree.MidStep.TheVariants.{Const, Address, Move, Unary, Binary, Compare, Load, Store, Jump, Branch, Call, CallValue, Return, Check, System}
+use Rattle.odc_mid.specs.declared.tree.SystemCall.{SystemCall}
+use Rattle.odc_mid.specs.declared.tree.SystemCall.TheVariants.{Read, Write, Exit}
+use Rattle.rv_emit.specs.Code.{Around, offset_of, text_start, sites_of, calls_of, procs_size, start_size, variables_end}
 
 abbrev pub text_range : List ℕ → Range
 text_range text = record { start = text_start; size = length text; readable = true; writable = false; executable = true; bytes = text }
@@ -59,3 +63,47 @@ procs_width (p ∷ ps) = more_of (steps_width p.steps) (procs_width ps)
 -- how many instructions a step takes at most: a call moves its arguments
 abbrev pub factor : Whole → ℕ
 factor w = 32 + 14 * procs_width w.procedures
+
+-- temporaries whose slots lie in a frame of this size
+abbrev pub AreSlots : ℕ → List ℕ → Type 0
+AreSlots frame [] = Unit {0}
+AreSlots frame (t ∷ ts) = (8 * (t + 1) ≤ frame) × AreSlots frame ts
+
+-- a step whose slots lie in the frame, and whose numbers have 31 bits
+abbrev pub IsSlot : ℕ → ℕ → Type 0
+IsSlot frame t = 8 * (t + 1) ≤ frame
+
+abbrev pub IsPlaced : Around → ℕ → Named → Type 0
+IsPlaced around procs (OfVariable x) = (x < length around.variables) × (offset_of (slice_get around.variables x) < 2 ^ 31)
+IsPlaced around procs (Stored n) = (n < length around.addresses) × (get_or around.addresses n 0 < 2 ^ 31)
+IsPlaced around procs (Procedure f) = (f ≤ procs) × (around.entries f < 2 ^ 31)
+
+abbrev pub AreFew : List ℕ → Type 0
+AreFew ts = 8 * length ts < 2 ^ 31
+
+abbrev pub AreSystemSlots : ℕ → SystemCall → Type 0
+AreSystemSlots frame (Read to a n) = IsSlot frame to × (IsSlot frame a × IsSlot frame n)
+AreSystemSlots frame (Write d a n) = IsSlot frame a × IsSlot frame n
+AreSystemSlots frame (Exit code) = IsSlot frame code
+
+-- a step that can be emitted: its temporaries have slots, and what it names has a place below 2^31
+abbrev pub CanEmit : Around → ℕ → ℕ → MidStep → Type 0
+CanEmit around steps procs (Const to word) = IsSlot around.frame to
+CanEmit around steps procs (Address to of) = IsSlot around.frame to × IsPlaced around procs of
+CanEmit around steps procs (Move to from) = IsSlot around.frame to × IsSlot around.frame from
+CanEmit around steps procs (Unary to op operand) = IsSlot around.frame to × IsSlot around.frame operand
+CanEmit around steps procs (Binary to op left right) = IsSlot around.frame to × (IsSlot around.frame left × IsSlot around.frame right)
+CanEmit around steps procs (Compare to op left right) = IsSlot around.frame to × (IsSlot around.frame left × IsSlot around.frame right)
+CanEmit around steps procs (Load to width a) = IsSlot around.frame to × IsSlot around.frame a
+CanEmit around steps procs (Store width a value) = IsSlot around.frame a × IsSlot around.frame value
+CanEmit around steps procs (Jump label) = (label ≤ steps) × (around.place label < 2 ^ 31)
+CanEmit around steps procs (Branch condition label) = IsSlot around.frame condition × ((label ≤ steps) × (around.place label < 2 ^ 31))
+CanEmit around steps procs (Call to f arguments) = (IsSlot around.frame to × AreSlots around.frame arguments.items) × (AreFew arguments.items × ((f ≤ procs) × (around.entries f < 2 ^ 31)))
+CanEmit around steps procs (CallValue to target arguments marked) = (IsSlot around.frame to × (IsSlot around.frame target × AreSlots around.frame arguments.items)) × AreFew arguments.items
+CanEmit around steps procs (Return value) = IsSlot around.frame value
+CanEmit around steps procs (Check condition which at) = IsSlot around.frame condition
+CanEmit around steps procs (System asked) = AreSystemSlots around.frame asked
+
+abbrev pub AllCanEmit : Around → ℕ → ℕ → List MidStep → Type 0
+AllCanEmit around steps procs [] = Unit {0}
+AllCanEmit around steps procs (s ∷ ss) = CanEmit around steps procs s × AllCanEmit around steps procs ss

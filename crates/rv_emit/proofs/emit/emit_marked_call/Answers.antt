@@ -1,0 +1,7 @@
+use Rattle.std.proofs.lemmas.Result.{on_ok_weaker}
+use Rattle.rv_emit.proofs.Appends.{four_appended}
+use Rattle.rv_emit.proofs.emit.emit_marked_call.Goals as goal
+
+pub returns : goal.returns
+returns c =
+    on_ok_weaker c.emit_link.result (λ h. four_appended c.args.code.now.items _ _ _ _ _ _ _ _ c.in_ok-load_slot.ensures c.in_ok-emit_registers.ensures c.in_ok-emit_pass.ensures h) c.emit_link.ensures
