@@ -6,3 +6,4 @@ pub mod Frame
 pub mod Source
 pub mod Well
 pub mod Place
+pub mod Nodes

@@ -8,6 +8,8 @@ use odc_text::place::Place;
 pub enum Constant {
     /// Of type `int`.
     Int { value: i64 },
+    /// Of type `bool`.
+    Bool { value: bool },
 }
 
 /// A built-in procedure, or one of a library package without text.
@@ -17,12 +19,17 @@ pub enum Builtin {
     Println,
 }
 
-/// An operation on two integers; its result wraps.
+/// An operation on two integers. A sum, difference or product wraps; a quotient is cut toward zero, and
+/// a remainder has the sign of the dividend. A comparison gives a truth value.
 #[derive(Clone, Copy)]
 pub enum BinaryOp {
     Add,
     Subtract,
     Multiply,
+    Divide,
+    Remainder,
+    Less,
+    Equal,
 }
 
 /// An expression with its place.
@@ -38,21 +45,25 @@ pub struct TExpr {
 pub enum ExprKind {
     /// A folded constant.
     Const(Constant),
-    /// A variable of the procedure, by its position in `locals`.
+    /// A variable of the procedure, by its position among its parameters, results and locals.
     Local(u32),
     /// Two operands, the left one first; the place is that of the operator.
     Binary(BinaryOp, Box<TExpr>, Box<TExpr>),
+    /// A call of a procedure, by its position in `procedures`, with its arguments.
+    Call(u32, Vec<TExpr>),
     /// A call of a built-in with its arguments.
     Builtin(Builtin, Vec<TExpr>),
 }
 
 /// A statement with its place.
+#[cycle(stmts)]
 #[derive(Drop)]
 pub struct TStmt {
     pub at: Place,
     pub kind: StmtKind,
 }
 
+#[cycle(stmts)]
 #[derive(Drop)]
 pub enum StmtKind {
     /// A call as a statement.
@@ -61,6 +72,12 @@ pub enum StmtKind {
     Declare(u32, TExpr),
     /// A place, and the value that it gets.
     Assign(TExpr, TExpr),
+    /// A condition, and what is done where it is true.
+    If(TExpr, Vec<TStmt>),
+    /// A condition, and what is done as long as it is true.
+    Loop(TExpr, Vec<TStmt>),
+    /// The procedure ends with this value.
+    Return(TExpr),
 }
 
 /// A variable of a procedure, with the place of its name.
@@ -69,10 +86,14 @@ pub struct Local {
     pub at: Place,
 }
 
-/// A procedure; its place is its `proc` word. Its variables are listed in the order of the text.
+/// A procedure; its place is its `proc` word. Its variables are the parameters, the results, of which
+/// there is at most one today, and the locals in the order of the text.
 #[derive(Drop)]
 pub struct Procedure {
+    pub name: String,
     pub at: Place,
+    pub parameters: Vec<Local>,
+    pub results: Vec<Local>,
     pub locals: Vec<Local>,
     pub body: Vec<TStmt>,
 }
