@@ -3,12 +3,12 @@ use Rattle.std.proofs.Common.{◌≡◌, ℕ, zero, suc, ◌+◌, ◌-◌, ◌*�
 use Rattle.std.specs.Prelude.{Option, Some, None, if◌then◌else◌}
 use Rattle.std.proofs.lemmas.Bool.Decides.{nat_tests}
 use Rattle.odc_text.specs.Run.{Log}
-use Rattle.odc_program.specs.Tree.{Proc}
-use Rattle.odc_program.specs.Bytes.{Value, bytes_of}
-use Rattle.odc_program.specs.Memory.{Memory as Blocks}
-use Rattle.odc_program.specs.Frame.{variable_place}
-use Rattle.odc_program.specs.Well.{Signature, Scope, InScope}
-use Rattle.odc_program.specs.Source.{State, Res, ok, then_by, Calls, Env, block_of, read_found}
+use Rattle.odc_typed.specs.Tree.{Proc}
+use Rattle.odc_typed.specs.Bytes.{Value, bytes_of}
+use Rattle.odc_typed.specs.Memory.{Memory as Blocks}
+use Rattle.odc_typed.specs.Frame.{variable_place}
+use Rattle.odc_typed.specs.Well.{Signature, Scope, InScope}
+use Rattle.odc_typed.specs.Source.{State, Res, ok, then_by, Calls, Env, block_of, read_found}
 use Rattle.odc_core.specs.Tree.{Stmts, follow}
 use Rattle.odc_core.specs.Tree.{const as word}
 use Rattle.odc_core.specs.Words.{bytes_of as numbers_of}
@@ -25,25 +25,25 @@ use Rattle.odc_context.proofs.Texts.{AreSmall, values}
 use Rattle.odc_context.proofs.Exprs.{Fits, Ready, Live}
 use Rattle.odc_context.proofs.Nodes.{CallsFollow}
 use Rattle.odc_context.proofs.Values.{few}
-use Rattle.odc_program.specs.Bytes.{Block}
-use Rattle.odc_program.specs.Source.{Flow as Left, falls as left_falls}
+use Rattle.odc_typed.specs.Bytes.{Block}
+use Rattle.odc_typed.specs.Source.{Flow as Left, falls as left_falls}
 use Rattle.odc_context.proofs.Sims.{onto_onto}
 use Rattle.odc_context.specs.Code.{stmts_code}
 use Rattle.odc_context.specs.Code.{put as set}
 use Rattle.odc_context.proofs.Ties.{tied_open, opened, open_stays}
 use Rattle.odc_core.specs.Tree.{answer as answered}
-use Rattle.odc_program.specs.Memory.{open_block}
-use Rattle.odc_program.specs.Source.{exec_all, returns}
-use Rattle.odc_program.specs.Place.{place_of}
+use Rattle.odc_typed.specs.Memory.{open_block}
+use Rattle.odc_typed.specs.Source.{exec_all, returns}
+use Rattle.odc_typed.specs.Place.{place_of}
 use Rattle.odc_context.proofs.Stmts.{Gave, Done, Result, result_on}
 use Rattle.odc_context.proofs.Bodies.{scope_behind, stmts_sim}
 use Rattle.odc_context.proofs.Sims.{sim_from}
 use Rattle.odc_context.specs.Code.{words_from, printing, own_of, begin_code, end_code, body_code, crossed}
-use Rattle.odc_program.specs.declared.tree.Local.{Local}
-use Rattle.odc_program.specs.Frame.{frame}
-use Rattle.odc_program.specs.Memory.{close}
-use Rattle.odc_program.specs.Source.{begin_results, answer_of, end_of, env_of, body_run}
-use Rattle.odc_program.specs.Well.{first_scope, around, IsWellProc}
+use Rattle.odc_typed.specs.declared.tree.Local.{Local}
+use Rattle.odc_typed.specs.Frame.{frame}
+use Rattle.odc_typed.specs.Memory.{close}
+use Rattle.odc_typed.specs.Source.{begin_results, answer_of, end_of, env_of, body_run}
+use Rattle.odc_typed.specs.Well.{first_scope, around, IsWellProc}
 use Rattle.odc_core.specs.Memory.{forgotten, lies}
 use Rattle.odc_core.specs.Frames.{with_arguments}
 use Rattle.odc_core.specs.declared.tree.Variable.{Variable}

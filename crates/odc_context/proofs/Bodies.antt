@@ -3,13 +3,13 @@ use Rattle.std.proofs.Common.{◌≡◌, ℕ, ◌+◌, ◌-◌, ◌<◌, ◌≤�
 use Rattle.std.specs.Prelude.{Option, Some}
 use Rattle.odc_text.specs.declared.place.Place.{Place}
 use Rattle.odc_text.specs.Run.{Log}
-use Rattle.odc_program.specs.declared.tree.Builtin.TheVariants.{Println}
-use Rattle.odc_program.specs.Tree.{Expr, const, local, binary, call, builtin}
-use Rattle.odc_program.specs.Bytes.{Value, bytes_of}
-use Rattle.odc_program.specs.Memory.{Memory as Blocks}
-use Rattle.odc_program.specs.Frame.{variable_place}
-use Rattle.odc_program.specs.Well.{IsInt, Signature, Scope}
-use Rattle.odc_program.specs.Source.{State, Res, ok, then_by, Calls, Env, block_of, value_of}
+use Rattle.odc_typed.specs.declared.tree.Builtin.TheVariants.{Println}
+use Rattle.odc_typed.specs.Tree.{Expr, const, local, binary, call, builtin}
+use Rattle.odc_typed.specs.Bytes.{Value, bytes_of}
+use Rattle.odc_typed.specs.Memory.{Memory as Blocks}
+use Rattle.odc_typed.specs.Frame.{variable_place}
+use Rattle.odc_typed.specs.Well.{IsInt, Signature, Scope}
+use Rattle.odc_typed.specs.Source.{State, Res, ok, then_by, Calls, Env, block_of, value_of}
 use Rattle.odc_core.specs.Tree.{Stmts, finish, follow}
 use Rattle.odc_core.specs.Words.{bytes_of as numbers_of}
 use Rattle.odc_core.specs.Memory.{Memory, put}
@@ -23,19 +23,19 @@ use Rattle.odc_context.proofs.Ties.{Holds, Floor, stays_on}
 use Rattle.odc_context.proofs.Exprs.{Fits, Ready, Live, live_on}
 use Rattle.odc_context.proofs.Nodes.{alone, CallsFollow}
 use Rattle.odc_context.proofs.Values.{depth_some}
-use Rattle.odc_program.specs.Source.{truth_of, exec, Flow as Left, falls as left_falls}
-use Rattle.odc_program.specs.Well.{IsCondition}
+use Rattle.odc_typed.specs.Source.{truth_of, exec, Flow as Left, falls as left_falls}
+use Rattle.odc_typed.specs.Well.{IsCondition}
 use Rattle.odc_context.proofs.Turns.{rest_of}
 use Rattle.odc_context.specs.Code.{stmt_code, stmts_code, turn_code, stmt_depth, stmts_depth}
 use Rattle.odc_context.specs.Code.{put as set}
 use Rattle.odc_context.proofs.Ties.{stored_word}
 use Rattle.odc_core.specs.Tree.{choose as branch, repeat as loop, leave, answer as answered}
 use Rattle.odc_core.specs.Run.{turns}
-use Rattle.odc_program.specs.Tree.{Stmt as Source, eval, declare, assign, choose, repeat, answer, Stmts as Sources, finish as ended, follow as before}
-use Rattle.odc_program.specs.Memory.{put as block_put}
-use Rattle.odc_program.specs.Source.{exec_all, turns_while, write_at, with_memory, address_of, returns}
-use Rattle.odc_program.specs.Source.{after as left_after}
-use Rattle.odc_program.specs.Well.{Around, IsWellStmt, AreWell, scope_after}
+use Rattle.odc_typed.specs.Tree.{Stmt as Source, eval, declare, assign, choose, repeat, answer, Stmts as Sources, finish as ended, follow as before}
+use Rattle.odc_typed.specs.Memory.{put as block_put}
+use Rattle.odc_typed.specs.Source.{exec_all, turns_while, write_at, with_memory, address_of, returns}
+use Rattle.odc_typed.specs.Source.{after as left_after}
+use Rattle.odc_typed.specs.Well.{Around, IsWellStmt, AreWell, scope_after}
 use Rattle.odc_context.proofs.Stmts.{Done, Result, result_on, ready_now, into_runs, changed, value_then}
 use Rattle.odc_context.proofs.Ties.{put_holds}
 use Rattle.odc_context.proofs.Forms.{declare_sim, assign_sim, print_sim}
@@ -49,7 +49,7 @@ scope_behind scope (before st ss) = scope_behind (scope_after scope st) ss
 
 -- a condition waits
 condition_some : (ss : List Signature) (scope : Scope) (e : Expr) → IsCondition ss scope e → 0 < depth_of e
-condition_some ss scope (const at value) h = absurd h
+condition_some ss scope (const at value) h = omega arith
 condition_some ss scope (local at x) h = absurd h
 condition_some ss scope (binary at op left right) h = omega arith
 condition_some ss scope (call at f arguments) h = absurd h

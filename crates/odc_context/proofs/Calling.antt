@@ -3,10 +3,10 @@ use Rattle.std.proofs.Common.{◌≡◌, ℕ, suc, ◌+◌, ◌*◌, ◌<◌, �
 use Rattle.std.specs.Prelude.{Some, None, slice_get}
 use Rattle.odc_text.specs.declared.place.Place.{Place}
 use Rattle.odc_text.specs.Run.{Log}
-use Rattle.odc_program.specs.Bytes.{Value}
-use Rattle.odc_program.specs.Memory.{Memory as Blocks}
-use Rattle.odc_program.specs.Well.{Signature}
-use Rattle.odc_program.specs.Source.{State, Res, Calls, Env}
+use Rattle.odc_typed.specs.Bytes.{Value}
+use Rattle.odc_typed.specs.Memory.{Memory as Blocks}
+use Rattle.odc_typed.specs.Well.{Signature}
+use Rattle.odc_typed.specs.Source.{State, Res, Calls, Env}
 use Rattle.odc_core.specs.Tree.{slot}
 use Rattle.odc_core.specs.Tree.{call as called, Exprs as CoreExprs, more as another}
 use Rattle.odc_core.specs.Words.{bytes_of as numbers_of}

@@ -5,11 +5,11 @@ use Rattle.std.proofs.Math.Nat.{add-zero}
 use Rattle.std.proofs.lemmas.Bool.Decides.{nat_tests}
 use Rattle.odc_text.specs.declared.place.Place.{Place}
 use Rattle.odc_text.specs.Run.{checked, Log}
-use Rattle.odc_program.specs.Tree.{Proc}
-use Rattle.odc_program.specs.Bytes.{Value}
-use Rattle.odc_program.specs.Memory.{Memory as Blocks}
-use Rattle.odc_program.specs.Well.{Signature}
-use Rattle.odc_program.specs.Source.{State, Res, stop, Env}
+use Rattle.odc_typed.specs.Tree.{Proc}
+use Rattle.odc_typed.specs.Bytes.{Value}
+use Rattle.odc_typed.specs.Memory.{Memory as Blocks}
+use Rattle.odc_typed.specs.Well.{Signature}
+use Rattle.odc_typed.specs.Source.{State, Res, stop, Env}
 use Rattle.odc_core.specs.Memory.{Memory}
 use Rattle.odc_core.specs.Frames.{touched_in}
 use Rattle.odc_core.specs.Run.{World, calls_of}
@@ -26,16 +26,16 @@ use Rattle.odc_context.proofs.Sims.{Begins, sim_turn}
 use Rattle.odc_text.specs.Run.{going}
 use Rattle.odc_context.proofs.Ties.{floor_below, tied_start, tied_back, stays_back}
 use Rattle.odc_context.specs.Code.{own_of, crossed}
-use Rattle.odc_program.specs.Frame.{frame}
-use Rattle.odc_program.specs.Memory.{close}
-use Rattle.odc_program.specs.Source.{env_of, body_run, numbered}
-use Rattle.odc_program.specs.Well.{IsWellProc, signatures}
+use Rattle.odc_typed.specs.Frame.{frame}
+use Rattle.odc_typed.specs.Memory.{close}
+use Rattle.odc_typed.specs.Source.{env_of, body_run, numbered}
+use Rattle.odc_typed.specs.Well.{IsWellProc, signatures}
 use Rattle.odc_context.proofs.Procs.{frame_fits}
 use Rattle.odc_context.proofs.Sims.{sim_later}
 use Rattle.odc_core.specs.Run.{body_run as core_body}
 use Rattle.odc_context.proofs.Activation.{Returned, activation_sim}
-use Rattle.odc_program.specs.Source.{calls_of as source_calls, enter as source_enter, has_room as source_room}
-use Rattle.odc_program.specs.Well.{AllWell}
+use Rattle.odc_typed.specs.Source.{calls_of as source_calls, enter as source_enter, has_room as source_room}
+use Rattle.odc_typed.specs.Well.{AllWell}
 use Rattle.odc_core.specs.Run.{enter as core_enter}
 use Rattle.odc_core.specs.Frames.{has_room}
 use Rattle.odc_core.specs.Tree.{Proc as CoreProc}

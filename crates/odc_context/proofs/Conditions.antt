@@ -5,13 +5,13 @@ use Rattle.std.specs.Int.{w64, cast_signed}
 use Rattle.std.proofs.lemmas.List.{map-append}
 use Rattle.odc_text.specs.declared.place.Place.{Place}
 use Rattle.odc_text.specs.Run.{out, Log}
-use Rattle.odc_program.specs.declared.tree.BinaryOp.{BinaryOp}
-use Rattle.odc_program.specs.declared.tree.BinaryOp.TheVariants.{Add, Subtract, Multiply, Divide, Remainder, Less, Equal}
-use Rattle.odc_program.specs.Tree.{Expr, const, local, binary, call, builtin}
-use Rattle.odc_program.specs.Bytes.{Value, bytes_of}
-use Rattle.odc_program.specs.Memory.{Memory as Blocks}
-use Rattle.odc_program.specs.Well.{Signature, Scope}
-use Rattle.odc_program.specs.Source.{State, Res, ok, then_by, Calls, Env, value_of, operate, result_of}
+use Rattle.odc_typed.specs.declared.tree.BinaryOp.{BinaryOp}
+use Rattle.odc_typed.specs.declared.tree.BinaryOp.TheVariants.{Add, Subtract, Multiply, Divide, Remainder, Less, Equal}
+use Rattle.odc_typed.specs.Tree.{Expr, const, local, binary, call, builtin}
+use Rattle.odc_typed.specs.Bytes.{Value, bytes_of}
+use Rattle.odc_typed.specs.Memory.{Memory as Blocks}
+use Rattle.odc_typed.specs.Well.{Signature, Scope}
+use Rattle.odc_typed.specs.Source.{State, Res, ok, then_by, Calls, Env, value_of, operate, result_of}
 use Rattle.odc_core.specs.Tree.{Stmts}
 use Rattle.odc_core.specs.Words.{bytes_of as numbers_of}
 use Rattle.odc_core.specs.Memory.{Memory, put}
@@ -39,9 +39,11 @@ use Rattle.odc_core.specs.declared.tree.Comparison.TheVariants.{Less as Under, E
 use Rattle.odc_core.specs.Tree.{compare}
 use Rattle.odc_core.specs.Words.{compare_words}
 use Rattle.rv_table.specs.Words.{flag}
-use Rattle.odc_program.specs.Source.{bool_bytes}
-use Rattle.odc_program.specs.Well.{IsCondition, IsComparison}
-use Rattle.odc_context.proofs.Frame.{r_compare}
+use Rattle.odc_typed.specs.Source.{bool_bytes}
+use Rattle.odc_typed.specs.Well.{IsCondition, IsComparison}
+use Rattle.odc_context.proofs.Frame.{r_compare, r_const}
+use Rattle.odc_core.specs.Tree.{const as word}
+use Rattle.odc_typed.specs.declared.tree.Constant.TheVariants.{Int, Bool as Truth}
 use Rattle.std.specs.Prelude.{int_lt}
 
 -- ---- printed lines
@@ -116,13 +118,26 @@ module _ (entries : ℕ → ℕ) (n : ℕ) (world : World) (at : Place) (o : Own
     -- two words that wait are compared
     compare_sim : (cop : Comparison) (u v : ℕ) (b : Bool) (src : Blocks) (m0 m : Memory) (l : Log ℕ ℕ) (t : State) → 1 < o.waiting → u < 2 ^ 64 → v < 2 ^ 64 → compare_words cop u v ≡ flag b →
         WordAt m (env.low + offset_of (o.first + 0)) u → WordAt m (env.low + offset_of (o.first + (0 + 1))) v → Ready entries n world at o env size src0 outer fits floor src t.memory t.serial t.left m → ((x : ℕ) → Zone entries n world at o env size src0 outer fits floor 0 x → m x ≡ m0 x) → map (read entries) t.log ≡ l →
-        Sim entries (Tested src m0) j 50 40 (ex j world at low o outer (one (wait o 0 (compare cop (waits o 0) (waits o (0 + 1)))))) t m l (ok (bool_bytes b) t)
+        Sim entries (Tested src m0) j 50 40 (ex j world at low o outer (one (wait o 0 (compare cop (waits o 0) (waits o (0 + 1)))))) t m l (ok (bool_bytes b) (record t { cost = t.cost + 1 }))
     compare_sim cop u v b src m0 m l t inside left_small right_small e left_waits right_waits ready others logs =
         let R : ℕ → Type 0 = λ x. Runs j (ex j world at low o outer (one (wait o 0 (compare cop (waits o 0) (waits o (0 + 1)))))) m l 7 10 falls (put m (env.low + offset_of (o.first + 0)) (numbers_of 8 x)) l in
-        sim_runs entries (Tested src m0) j 50 40 (ex j world at low o outer (one (wait o 0 (compare cop (waits o 0) (waits o (0 + 1)))))) t m l (bool_bytes b) 7 10 falls (put m (env.low + offset_of (o.first + 0)) (numbers_of 8 (flag b)))
-        (subst R e (r_wait entries n world at o env size src0 outer fits floor j 0 (compare cop (waits o 0) (waits o (0 + 1))) m l 5 7 (compare_words cop u v) (omega arith)
-        (r_compare j world at low o outer cop (waits o 0) (waits o (0 + 1)) m l 2 3 2 3 u v (r_waits entries n world at o env size src0 outer fits floor j 0 u m l (omega arith) left_small left_waits) (r_waits entries n world at o env size src0 outer fits floor j (0 + 1) v m l (omega arith) right_small right_waits))))
-        logs (lit≤ tt) (tested src m0 m b t (omega arith) ready others)
+        record {
+          by = record {
+            word = falls;
+            memory = put m (env.low + offset_of (o.first + 0)) (numbers_of 8 (flag b));
+            log = l;
+            budget = 7;
+            cost = 10;
+            runs = subst R e (r_wait entries n world at o env size src0 outer fits floor j 0 (compare cop (waits o 0) (waits o (0 + 1))) m l 5 7 (compare_words cop u v) (omega arith)
+                (r_compare j world at low o outer cop (waits o 0) (waits o (0 + 1)) m l 2 3 2 3 u v (r_waits entries n world at o env size src0 outer fits floor j 0 u m l (omega arith) left_small left_waits) (r_waits entries n world at o env size src0 outer fits floor j (0 + 1) v m l (omega arith) right_small right_waits)));
+            holds = tested src m0 m b (record t { cost = t.cost + 1 }) (omega arith) (record { tied = ready.tied; newer = ready.newer; few = ready.few; stays = ready.stays }) others;
+            logs = logs;
+            cheap = omega arith;
+            turns = omega arith;
+            fewer = omega arith;
+            taken = refl;
+          };
+        }
 
     comparison_sim : (at' : Place) (op : BinaryOp) (u v : ℕ) (src : Blocks) (m0 m : Memory) (l : Log ℕ ℕ) (t : State) → IsComparison op → 1 < o.waiting → u < 2 ^ 64 → v < 2 ^ 64 →
         WordAt m (env.low + offset_of (o.first + 0)) u → WordAt m (env.low + offset_of (o.first + (0 + 1))) v → Ready entries n world at o env size src0 outer fits floor src t.memory t.serial t.left m → ((x : ℕ) → Zone entries n world at o env size src0 outer fits floor 0 x → m x ≡ m0 x) → map (read entries) t.log ≡ l →
@@ -138,7 +153,17 @@ module _ (entries : ℕ → ℕ) (n : ℕ) (world : World) (at : Place) (o : Own
 
     pub condition_sim : (e : Expr) (s : State) (m : Memory) (l : Log ℕ ℕ) → IsCondition ss scope e → depth_of e ≤ o.waiting → Live entries n world at o env size src0 outer fits floor scope s.memory → Ready entries n world at o env size src0 outer fits floor s.memory s.memory s.serial s.left m → map (read entries) s.log ≡ l →
         Sim entries (Tested s.memory m) j 0 40 (ex j world at low o outer (expr_code o 0 e)) s m l (value_of calls env e s)
-    condition_sim (const at' value) s m l h fit live ready logs = absurd h
+    condition_sim (const at' (Int z)) s m l h fit live ready logs = absurd h
+    condition_sim (const at' (Truth b)) s m l h fit live ready logs =
+        let w : ℕ = flag b in
+        let t : State = record s { cost = s.cost + 1 } in
+        let act : Fueled Flow = ex j world at low o outer (expr_code o 0 (const at' (Truth b))) in
+        let m' : Memory = put m (env.low + offset_of (o.first + 0)) (numbers_of 8 w) in
+        let R : Value → State → Flow → Memory → Type 0 = Tested s.memory m in
+        sim_tick entries R j 40 act m l 0 s (ok (bool_bytes b) t)
+        (sim_runs entries R j (0 + 100) 40 act t m l (bool_bytes b) (1 + 2) (1 + 3) falls m'
+        (r_wait entries n world at o env size src0 outer fits floor j 0 (word w) m l 1 1 w (omega arith) (r_const j world at low o outer w m l)) logs (lit≤ tt)
+        (tested s.memory m m b t (omega arith) (record { tied = ready.tied; newer = ready.newer; few = ready.few; stays = ready.stays }) (λ x zone. refl)))
     condition_sim (local at' x) s m l h fit live ready logs = absurd h
     condition_sim (call at' f arguments) s m l h fit live ready logs = absurd h
     condition_sim (builtin at' which arguments) s m l h fit live ready logs = absurd h

@@ -6,12 +6,12 @@ use Rattle.odc_text.specs.declared.place.Place.{Place}
 use Rattle.odc_text.specs.declared.check.Check.TheVariants.{Division}
 use Rattle.odc_text.specs.Run.{checked, Log}
 use Rattle.rv_table.specs.Words.{plus, minus, quotient, remainder}
-use Rattle.odc_program.specs.declared.tree.BinaryOp.{BinaryOp}
-use Rattle.odc_program.specs.declared.tree.BinaryOp.TheVariants.{Add, Subtract, Multiply, Divide, Remainder, Less, Equal}
-use Rattle.odc_program.specs.Bytes.{Value, bytes_of}
-use Rattle.odc_program.specs.Memory.{Memory as Blocks}
-use Rattle.odc_program.specs.Well.{Scope, InScope, IsArithmetic}
-use Rattle.odc_program.specs.Source.{State, Res, ok, stop, Act, then_by, Env, block_of, result_of, divided, wrapped}
+use Rattle.odc_typed.specs.declared.tree.BinaryOp.{BinaryOp}
+use Rattle.odc_typed.specs.declared.tree.BinaryOp.TheVariants.{Add, Subtract, Multiply, Divide, Remainder, Less, Equal}
+use Rattle.odc_typed.specs.Bytes.{Value, bytes_of}
+use Rattle.odc_typed.specs.Memory.{Memory as Blocks}
+use Rattle.odc_typed.specs.Well.{Scope, InScope, IsArithmetic}
+use Rattle.odc_typed.specs.Source.{State, Res, ok, stop, Act, then_by, Env, block_of, result_of, divided, wrapped}
 use Rattle.odc_core.specs.declared.tree.BinaryOp.{BinaryOp as CoreOp}
 use Rattle.odc_core.specs.declared.tree.BinaryOp.TheVariants.{Add as Plus, Subtract as Minus, Multiply as Times, Divide as Over, Remainder as Rest}
 use Rattle.odc_core.specs.Tree.{check, Stmts, follow}

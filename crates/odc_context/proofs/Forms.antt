@@ -3,13 +3,13 @@ use Rattle.std.proofs.Common.{◌≡◌, ℕ, ◌+◌, ◌*◌, ◌<◌, ◌≤�
 use Rattle.std.specs.Prelude.{Option, Some}
 use Rattle.odc_text.specs.declared.place.Place.{Place}
 use Rattle.odc_text.specs.Run.{out, Log}
-use Rattle.odc_program.specs.declared.tree.Builtin.TheVariants.{Println}
-use Rattle.odc_program.specs.Tree.{Expr, local, builtin, Exprs}
-use Rattle.odc_program.specs.Bytes.{Value, bytes_of}
-use Rattle.odc_program.specs.Memory.{Memory as Blocks}
-use Rattle.odc_program.specs.Frame.{variable_place}
-use Rattle.odc_program.specs.Well.{IsInt, AreInts, Signature, Scope, InScope}
-use Rattle.odc_program.specs.Source.{State, Res, ok, then_by, Calls, Env, block_of, value_of, values_of}
+use Rattle.odc_typed.specs.declared.tree.Builtin.TheVariants.{Println}
+use Rattle.odc_typed.specs.Tree.{Expr, local, builtin, Exprs}
+use Rattle.odc_typed.specs.Bytes.{Value, bytes_of}
+use Rattle.odc_typed.specs.Memory.{Memory as Blocks}
+use Rattle.odc_typed.specs.Frame.{variable_place}
+use Rattle.odc_typed.specs.Well.{IsInt, AreInts, Signature, Scope, InScope}
+use Rattle.odc_typed.specs.Source.{State, Res, ok, then_by, Calls, Env, block_of, value_of, values_of}
 use Rattle.odc_core.specs.Tree.{Stmts}
 use Rattle.odc_core.specs.Words.{bytes_of as numbers_of}
 use Rattle.odc_core.specs.Memory.{Memory, put}
@@ -23,19 +23,19 @@ use Rattle.odc_context.proofs.Texts.{values}
 use Rattle.odc_context.proofs.Exprs.{Fits, Ready, Live, live_on, join_sim}
 use Rattle.odc_context.specs.Code.{line_code}
 use Rattle.odc_context.proofs.Texts.{line_text, said, printed_line}
-use Rattle.odc_program.specs.Source.{print_line}
+use Rattle.odc_typed.specs.Source.{print_line}
 use Rattle.odc_context.proofs.Nodes.{read_out, CallsFollow, Listed}
 use Rattle.odc_context.proofs.Values.{few, depth_some, exprs_sim}
-use Rattle.odc_program.specs.Bytes.{number_of}
-use Rattle.odc_program.specs.Source.{bool_bytes, read_bool, exec, Flow as Left, falls as left_falls}
+use Rattle.odc_typed.specs.Bytes.{number_of}
+use Rattle.odc_typed.specs.Source.{bool_bytes, read_bool, exec, Flow as Left, falls as left_falls}
 use Rattle.odc_context.proofs.Conditions.{line_runs, as_waits}
 use Rattle.odc_context.proofs.Sims.{then_then}
 use Rattle.odc_context.specs.Code.{stmt_code}
 use Rattle.odc_context.specs.Code.{put as set}
 use Rattle.odc_context.proofs.Ties.{stored_word}
-use Rattle.odc_program.specs.Tree.{eval, declare, assign}
-use Rattle.odc_program.specs.Memory.{put as block_put}
-use Rattle.odc_program.specs.Source.{begin_with, write_at, with_memory, address_of}
+use Rattle.odc_typed.specs.Tree.{eval, declare, assign}
+use Rattle.odc_typed.specs.Memory.{put as block_put}
+use Rattle.odc_typed.specs.Source.{begin_with, write_at, with_memory, address_of}
 use Rattle.odc_context.proofs.Stmts.{Done, into_runs, begun, changed, value_then}
 
 -- what is read of a truth value
@@ -85,24 +85,23 @@ module _ (entries : ℕ → ℕ) (n : ℕ) (world : World) (at : Place) (o : Own
         Ready entries n world at o env size src0 outer fits floor s.memory s.memory s.serial s.left m → map (read entries) s.log ≡ l →
         Sim entries (Done entries n world at o env size src0 outer fits floor scope s.memory m) j 0 0 (ex j world at low o outer (stmt_code o (assign at' (local at'' x) value))) s m l (exec n calls env (assign at' (local at'' x) value) s)
     assign_sim j scope at' at'' x value s m l inside h fit live ready logs =
-        let s2 : State = record s { cost = s.cost + 1 + 1 } in
+        let s1 : State = record s { cost = s.cost + 1 } in
         let b = block_of env x in
         let Q : Left → State → Flow → Memory → Type 0 = Done entries n world at o env size src0 outer fits floor scope s.memory m in
         let tail : Stmts = one (set x (waits o 0)) in
         let act : Fueled Flow = ex j world at low o outer (join (expr_code o 0 value) tail) in
-        let f : Value → State → Res Left = λ v. (λ t. then_by (write_at at' (address_of env x) v t) (λ _. (λ u. ok left_falls u))) in
+        let f : Value → State → Res Left = λ v. (λ t. then_by (write_at at' (address_of env x) v (record t { cost = t.cost + 1 })) (λ _. (λ u. ok left_falls u))) in
         let live_x = live.by x inside in
-        sim_tick entries Q j 0 act m l 0 s (then_by (value_of calls env value s2) f)
-        (sim_tick entries Q j 0 act m l (0 + 100) (record s { cost = s.cost + 1 }) (then_by (value_of calls env value s2) f)
-        (value_then entries n world at o env size src0 outer fits floor ss calls calls_follow j (0 + 100 + 100) 0 scope value tail Q s2 m l f h fit (record { by = live.by }) (record { tied = ready.tied; newer = ready.newer; few = ready.few; stays = ready.stays }) logs
+        sim_tick entries Q j 0 act m l 0 s (then_by (value_of calls env value s1) f)
+        (value_then entries n world at o env size src0 outer fits floor ss calls calls_follow j (0 + 100) 0 scope value tail Q s1 m l f h fit (record { by = live.by }) (record { tied = ready.tied; newer = ready.newer; few = ready.few; stays = ready.stays }) logs
         (λ v t m' l' y logs'.
         let w : ℕ = y.word in
         let now_live : t.memory.size b ≡ Some 8 = y.ready.stays.by b 8 live_x.1 in
-        let after' : State = record t { memory = block_put t.memory b 0 (bytes_of 8 w); cost = t.cost + 1 } in
-        let is : f (bytes_of 8 w) t ≡ ok left_falls after' = ap (λ (q : Option Blocks). then_by {B = Left} (with_memory at' 8 q t) (λ _. (λ u. ok left_falls u))) (stored_word t.memory b w now_live) in
-        let P : Value → Type 0 = λ q. Sim entries Q j (0 + 100 + 100 + 40) 0 (ex j world at low o outer tail) t m' l' (f q t) in
+        let after' : State = record t { memory = block_put t.memory b 0 (bytes_of 8 w); cost = t.cost + 1 + 1 } in
+        let is : f (bytes_of 8 w) t ≡ ok left_falls after' = ap (λ (q : Option Blocks). then_by {B = Left} (with_memory at' 8 q (record t { cost = t.cost + 1 })) (λ _. (λ u. ok left_falls u))) (stored_word t.memory b w now_live) in
+        let P : Value → Type 0 = λ q. Sim entries Q j (0 + 100 + 40) 0 (ex j world at low o outer tail) t m' l' (f q t) in
         subst P (sym y.value)
-        (sim_result entries Q j (0 + 100 + 100 + 40) 0 (ex j world at low o outer tail) t m' l' (f (bytes_of 8 w) t) (ok left_falls after') is
+        (sim_result entries Q j (0 + 100 + 40) 0 (ex j world at low o outer tail) t m' l' (f (bytes_of 8 w) t) (ok left_falls after') is
         (record {
           by = record {
             word = falls;
@@ -112,14 +111,14 @@ module _ (entries : ℕ → ℕ) (n : ℕ) (world : World) (at : Place) (o : Own
             cost = 6;
             runs = r_one j world at low o outer (set x (waits o 0)) m' (put m' (variable_place env.low x) (numbers_of 8 w)) l' l' 4 6 falls
                 (into_runs entries n world at o env size src0 outer fits floor j x w m' l' live_x.0 (omega (arith, depth_some ss scope value h)) y.small y.waits);
-            holds = changed entries n world at o env size src0 outer fits floor j x w scope s.memory m m' t (t.cost + 1) live_x.0 y.small now_live y.ready (live_on entries n world at o env size src0 outer fits floor scope s.memory t.memory y.ready.stays live) y.others;
+            holds = changed entries n world at o env size src0 outer fits floor j x w scope s.memory m m' t (t.cost + 1 + 1) live_x.0 y.small now_live y.ready (live_on entries n world at o env size src0 outer fits floor scope s.memory t.memory y.ready.stays live) y.others;
             logs = logs';
             cheap = omega arith;
             turns = omega arith;
             fewer = omega arith;
             taken = refl;
           };
-        })))))
+        }))))
 
     pub print_sim : (j : ℕ) (scope : Scope) (at' at'' : Place) (es : Exprs) (s : State) (m : Memory) (l : Log ℕ ℕ) → AreInts ss scope es → depth_of_all es ≤ o.waiting → Live entries n world at o env size src0 outer fits floor scope s.memory →
         Ready entries n world at o env size src0 outer fits floor s.memory s.memory s.serial s.left m → map (read entries) s.log ≡ l →

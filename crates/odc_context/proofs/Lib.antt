@@ -22,4 +22,10 @@ pub mod Procs
 pub mod Activation
 pub mod Calls
 pub mod Grows
+pub mod Joins
+pub mod Lists
+pub mod Sources
 pub mod Whole
+pub mod Laid
+pub mod Wells
+pub mod Programs

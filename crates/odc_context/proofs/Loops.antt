@@ -3,11 +3,11 @@ use Rattle.std.proofs.Common.{◌≡◌, ℕ, ◌+◌, ◌^◌, ◌<◌, ◌≤�
 use Rattle.std.specs.Prelude.{◌==◌, if◌then◌else◌}
 use Rattle.odc_text.specs.declared.place.Place.{Place}
 use Rattle.odc_text.specs.Run.{checked, Log}
-use Rattle.odc_program.specs.Tree.{Expr}
-use Rattle.odc_program.specs.Bytes.{Value}
-use Rattle.odc_program.specs.Memory.{Memory as Blocks}
-use Rattle.odc_program.specs.Well.{Signature, Scope}
-use Rattle.odc_program.specs.Source.{State, Res, ok, stop, then_by, Calls, Env, value_of}
+use Rattle.odc_typed.specs.Tree.{Expr}
+use Rattle.odc_typed.specs.Bytes.{Value}
+use Rattle.odc_typed.specs.Memory.{Memory as Blocks}
+use Rattle.odc_typed.specs.Well.{Signature, Scope}
+use Rattle.odc_typed.specs.Source.{State, Res, ok, stop, then_by, Calls, Env, value_of}
 use Rattle.odc_core.specs.Tree.{Stmts, finish}
 use Rattle.odc_core.specs.Memory.{Memory}
 use Rattle.odc_core.specs.Run.{Flow, falls, leaves, answers, World, spend, pure, ◌>>=◌}
@@ -21,13 +21,13 @@ use Rattle.odc_context.proofs.Exprs.{Fits, Ready, Zone, Live, live_on, join_sim,
 use Rattle.odc_context.proofs.Nodes.{alone, CallsFollow}
 use Rattle.odc_context.proofs.Values.{kept}
 use Rattle.rv_table.specs.Words.{flag}
-use Rattle.odc_program.specs.Bytes.{number_of}
-use Rattle.odc_program.specs.Source.{bool_bytes, truth_of, read_bool, Flow as Left, falls as left_falls}
-use Rattle.odc_program.specs.Well.{IsCondition}
+use Rattle.odc_typed.specs.Bytes.{number_of}
+use Rattle.odc_typed.specs.Source.{bool_bytes, truth_of, read_bool, Flow as Left, falls as left_falls}
+use Rattle.odc_typed.specs.Well.{IsCondition}
 use Rattle.odc_context.proofs.Conditions.{Tested, condition_sim}
 use Rattle.odc_context.proofs.Sims.{then_then}
 use Rattle.odc_core.specs.Tree.{choose as branch}
-use Rattle.odc_program.specs.Source.{returns}
+use Rattle.odc_typed.specs.Source.{returns}
 use Rattle.odc_text.specs.Run.{going, exited, strayed, trapped}
 use Rattle.odc_context.proofs.Stmts.{AreLeft, Done, ready_now}
 use Rattle.odc_context.proofs.Forms.{bool_read}

@@ -5,14 +5,14 @@ use Rattle.std.specs.Int.{w64, cast_signed, cast_unsigned}
 use Rattle.std.proofs.lemmas.List.{map-append}
 use Rattle.odc_text.specs.declared.place.Place.{Place}
 use Rattle.odc_text.specs.Run.{out, Log}
-use Rattle.odc_program.specs.declared.tree.Constant.TheVariants.{Int}
-use Rattle.odc_program.specs.declared.tree.BinaryOp.{BinaryOp}
-use Rattle.odc_program.specs.Tree.{Expr, const, local, binary}
-use Rattle.odc_program.specs.Bytes.{Address, Value, bytes_of}
-use Rattle.odc_program.specs.Memory.{Memory as Blocks}
-use Rattle.odc_program.specs.Frame.{variable_place}
-use Rattle.odc_program.specs.Well.{Signature, Scope, InScope, IsArithmetic}
-use Rattle.odc_program.specs.Source.{State, Res, ok, then_by, Calls, Env, block_of, value_of, read_found, operate, result_of}
+use Rattle.odc_typed.specs.declared.tree.Constant.TheVariants.{Int}
+use Rattle.odc_typed.specs.declared.tree.BinaryOp.{BinaryOp}
+use Rattle.odc_typed.specs.Tree.{Expr, const, local, binary}
+use Rattle.odc_typed.specs.Bytes.{Address, Value, bytes_of}
+use Rattle.odc_typed.specs.Memory.{Memory as Blocks}
+use Rattle.odc_typed.specs.Frame.{variable_place}
+use Rattle.odc_typed.specs.Well.{Signature, Scope, InScope, IsArithmetic}
+use Rattle.odc_typed.specs.Source.{State, Res, ok, then_by, Calls, Env, block_of, value_of, read_found, operate, result_of}
 use Rattle.odc_core.specs.Tree.{Stmts}
 use Rattle.odc_core.specs.Tree.{const as word}
 use Rattle.odc_core.specs.Words.{bytes_of as numbers_of}

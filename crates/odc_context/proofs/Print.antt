@@ -8,7 +8,7 @@ use Rattle.odc_text.specs.declared.place.Place.{Place}
 use Rattle.odc_text.specs.Run.{out, Log}
 use Rattle.rv_table.specs.Words.{minus, flag, signed_below}
 use Rattle.rv_table.proofs.Bytes.{run_same}
-use Rattle.odc_program.specs.Source.{int_text}
+use Rattle.odc_typed.specs.Source.{int_text}
 use Rattle.odc_core.specs.declared.tree.BinaryOp.TheVariants.{Add, Subtract}
 use Rattle.odc_core.specs.declared.tree.Comparison.TheVariants.{Less}
 use Rattle.odc_core.specs.Tree.{Stmt, const, slot, binary, compare, choose, repeat, Stmts, finish, follow}

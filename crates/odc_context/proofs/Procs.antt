@@ -3,13 +3,13 @@ use Rattle.std.proofs.Common.{◌≡◌, ℕ, zero, suc, ◌+◌, ◌-◌, ◌*�
 use Rattle.std.specs.Prelude.{Some, nat_lt}
 use Rattle.std.proofs.Math.Nat.{add-zero}
 use Rattle.std.proofs.lemmas.Bool.Decides.{nat_tests}
-use Rattle.odc_program.specs.declared.tree.BinaryOp.{BinaryOp}
-use Rattle.odc_program.specs.declared.tree.BinaryOp.TheVariants.{Add, Subtract, Multiply, Divide, Remainder, Less, Equal}
-use Rattle.odc_program.specs.Tree.{Expr, const, local, binary, call, builtin, Exprs, none, more, Proc}
-use Rattle.odc_program.specs.Bytes.{bytes_of}
-use Rattle.odc_program.specs.Memory.{Memory as Blocks}
-use Rattle.odc_program.specs.Frame.{variable_place}
-use Rattle.odc_program.specs.Source.{State, Res, ok, Env, block_of}
+use Rattle.odc_typed.specs.declared.tree.BinaryOp.{BinaryOp}
+use Rattle.odc_typed.specs.declared.tree.BinaryOp.TheVariants.{Add, Subtract, Multiply, Divide, Remainder, Less, Equal}
+use Rattle.odc_typed.specs.Tree.{Expr, const, local, binary, call, builtin, Exprs, none, more, Proc}
+use Rattle.odc_typed.specs.Bytes.{bytes_of}
+use Rattle.odc_typed.specs.Memory.{Memory as Blocks}
+use Rattle.odc_typed.specs.Frame.{variable_place}
+use Rattle.odc_typed.specs.Source.{State, Res, ok, Env, block_of}
 use Rattle.odc_core.specs.Words.{bytes_of as numbers_of}
 use Rattle.odc_core.specs.Memory.{Memory, put}
 use Rattle.odc_context.specs.Code.{Own, offset_of, depth_of, depth_of_all}
@@ -19,19 +19,21 @@ use Rattle.odc_context.proofs.Exprs.{Fits}
 use Rattle.odc_context.proofs.Values.{few}
 use Rattle.odc_context.specs.Code.{stmt_depth, stmts_depth}
 use Rattle.odc_context.proofs.Ties.{tied_open, opened, open_stays}
-use Rattle.odc_program.specs.Tree.{Stmt as Source, eval, declare, assign, choose, repeat, answer, Stmts as Sources, finish as ended, follow as before}
-use Rattle.odc_program.specs.Memory.{open_block}
+use Rattle.odc_typed.specs.Tree.{Stmt as Source, eval, declare, assign, choose, repeat, answer, Stmts as Sources, finish as ended, follow as before}
+use Rattle.odc_typed.specs.Memory.{open_block}
 use Rattle.odc_context.specs.Code.{words_from, printing, own_of}
-use Rattle.odc_program.specs.Frame.{frame, expr_room, exprs_room, place_room, stmt_room, stmts_room, operation_size, rounded}
-use Rattle.odc_program.specs.Source.{begin_all}
+use Rattle.odc_typed.specs.declared.tree.Constant.TheVariants.{Int, Bool as Truth}
+use Rattle.odc_typed.specs.Frame.{frame, expr_room, exprs_room, place_room, stmt_room, stmts_room, operation_size, rounded}
+use Rattle.odc_typed.specs.Source.{begin_all}
 use Rattle.odc_core.specs.Frames.{with_arguments}
 use Rattle.odc_core.specs.declared.tree.Variable.{Variable}
 
 -- ---- the frame has room for the values that wait
 
 mutual
-  expr_fits : (e : Expr) → 100 * depth_of e ≤ expr_room e
-  expr_fits (const at value) = lit≤ tt
+  pub expr_fits : (e : Expr) → 100 * depth_of e ≤ expr_room e
+  expr_fits (const at (Int z)) = lit≤ tt
+  expr_fits (const at (Truth b)) = lit≤ tt
   expr_fits (local at x) = lit≤ tt
   expr_fits (binary at op left right) = let a : 100 * depth_of left ≤ expr_room left = expr_fits left in let b : 100 * depth_of right ≤ expr_room right = expr_fits right in let c : 8 ≤ rounded (operation_size op) = eight op in omega arith
     where
@@ -46,12 +48,12 @@ mutual
   expr_fits (call at f arguments) = let a : 100 * depth_of_all arguments ≤ exprs_room arguments = exprs_fit arguments in omega arith
   expr_fits (builtin at which arguments) = let a : 100 * depth_of_all arguments ≤ exprs_room arguments = exprs_fit arguments in omega arith
 
-  exprs_fit : (es : Exprs) → 100 * depth_of_all es ≤ exprs_room es
+  pub exprs_fit : (es : Exprs) → 100 * depth_of_all es ≤ exprs_room es
   exprs_fit none = lit≤ tt
   exprs_fit (more e es) = let a : 100 * depth_of e ≤ expr_room e = expr_fits e in let b : 100 * depth_of_all es ≤ exprs_room es = exprs_fit es in let c : 128 ≤ expr_room e = some_room e in omega arith
     where
       some_room : (q : Expr) → 128 ≤ expr_room q
-      some_room (const at value) = lit≤ tt
+      some_room (const at value) = omega arith
       some_room (local at x) = lit≤ tt
       some_room (binary at op left right) = omega arith
       some_room (call at f arguments) = omega arith
@@ -64,7 +66,7 @@ place_fits : (e : Expr) → 0 ≤ place_room e
 place_fits e = omega arith
 
 mutual
-  stmt_fits : (s : Source) → 100 * stmt_depth s ≤ stmt_room s
+  pub stmt_fits : (s : Source) → 100 * stmt_depth s ≤ stmt_room s
   stmt_fits (eval at value) = let a : 100 * depth_of value ≤ expr_room value = expr_fits value in omega arith
   stmt_fits (declare at x value) = let a : 100 * depth_of value ≤ expr_room value = expr_fits value in omega arith
   stmt_fits (assign at target value) = let a : 100 * depth_of value ≤ expr_room value = expr_fits value in omega arith
@@ -72,7 +74,7 @@ mutual
   stmt_fits (repeat at condition body) = let a : 100 * depth_of condition ≤ expr_room condition = expr_fits condition in let b : 100 * stmts_depth body ≤ stmts_room body = stmts_fit body in omega arith
   stmt_fits (answer at value) = let a : 100 * depth_of value ≤ expr_room value = expr_fits value in omega arith
 
-  stmts_fit : (ss : Sources) → 100 * stmts_depth ss ≤ stmts_room ss
+  pub stmts_fit : (ss : Sources) → 100 * stmts_depth ss ≤ stmts_room ss
   stmts_fit ended = lit≤ tt
   stmts_fit (before s ss) = let a : 100 * stmt_depth s ≤ stmt_room s = stmt_fits s in let b : 100 * stmts_depth ss ≤ stmts_room ss = stmts_fit ss in omega arith
 

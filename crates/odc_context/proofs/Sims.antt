@@ -3,9 +3,9 @@
 use Rattle.std.proofs.Common.{◌≡◌, ℕ, zero, suc, ◌+◌, ◌*◌, ◌≤◌, map, arith, ap, ◌∙◌, sym, subst, refl}
 use Rattle.std.proofs.Math.Nat.{add-zero}
 use Rattle.odc_text.specs.Run.{End, exited, checked, strayed, trapped, going, Entry, entry_by, Log}
-use Rattle.odc_program.specs.Bytes.{Address}
-use Rattle.odc_program.specs.Place.{number_at}
-use Rattle.odc_program.specs.Source.{State, Res, ok, stop, Act, then_by, turn, turn_from}
+use Rattle.odc_typed.specs.Bytes.{Address}
+use Rattle.odc_typed.specs.Place.{number_at}
+use Rattle.odc_typed.specs.Source.{State, Res, ok, stop, Act, then_by, turn, turn_from}
 use Rattle.odc_core.specs.Memory.{Memory}
 use Rattle.odc_core.specs.Run.{State as CoreState, Res as CoreRes, ok as fine, stop as halt, Act as CoreAct, then_by as onto, ◌>>=◌}
 use Rattle.odc_context.proofs.Runs.{Fueled, from, to, as_told, Runs, runs_then}

@@ -3,12 +3,12 @@ use Rattle.std.proofs.Common.{◌≡◌, ℕ, ◌+◌, ◌^◌, ◌<◌, ◌≤�
 use Rattle.std.specs.Prelude.{Some}
 use Rattle.odc_text.specs.declared.place.Place.{Place}
 use Rattle.odc_text.specs.Run.{Log}
-use Rattle.odc_program.specs.Tree.{Expr}
-use Rattle.odc_program.specs.Bytes.{Value, bytes_of}
-use Rattle.odc_program.specs.Memory.{Memory as Blocks}
-use Rattle.odc_program.specs.Frame.{variable_place}
-use Rattle.odc_program.specs.Well.{IsInt, Signature, Scope}
-use Rattle.odc_program.specs.Source.{State, Res, then_by, Calls, Env, block_of, value_of}
+use Rattle.odc_typed.specs.Tree.{Expr}
+use Rattle.odc_typed.specs.Bytes.{Value, bytes_of}
+use Rattle.odc_typed.specs.Memory.{Memory as Blocks}
+use Rattle.odc_typed.specs.Frame.{variable_place}
+use Rattle.odc_typed.specs.Well.{IsInt, Signature, Scope}
+use Rattle.odc_typed.specs.Source.{State, Res, then_by, Calls, Env, block_of, value_of}
 use Rattle.odc_core.specs.Tree.{Stmts}
 use Rattle.odc_core.specs.Words.{bytes_of as numbers_of}
 use Rattle.odc_core.specs.Memory.{Memory, put}
@@ -22,13 +22,13 @@ use Rattle.odc_context.proofs.Ties.{Holds, Floor, Tied, Stays, stays_on, stays_s
 use Rattle.odc_context.proofs.Exprs.{Fits, Ready, Zone, Valued, Live, join_sim, r_waits}
 use Rattle.odc_context.proofs.Nodes.{CallsFollow}
 use Rattle.odc_context.proofs.Values.{expr_sim}
-use Rattle.odc_program.specs.Bytes.{Block}
-use Rattle.odc_program.specs.Source.{Flow as Left, falls as left_falls}
+use Rattle.odc_typed.specs.Bytes.{Block}
+use Rattle.odc_typed.specs.Source.{Flow as Left, falls as left_falls}
 use Rattle.odc_context.specs.Code.{put as set}
 use Rattle.odc_context.proofs.Ties.{tied_put, tied_open, opened, open_stays}
-use Rattle.odc_program.specs.Memory.{open_block}
-use Rattle.odc_program.specs.Memory.{put as block_put}
-use Rattle.odc_program.specs.Source.{returns}
+use Rattle.odc_typed.specs.Memory.{open_block}
+use Rattle.odc_typed.specs.Memory.{put as block_put}
+use Rattle.odc_typed.specs.Source.{returns}
 
 module _ (entries : ℕ → ℕ) (n : ℕ) (world : World) (at : Place) (o : Own) (env : Env) (size : ℕ) (src0 : Blocks) (outer : ℕ → Bool) (fits : Fits env.low size o) (floor : Floor env size src0) where
   abbrev low : ℕ

@@ -13,10 +13,10 @@ use Rattle.odc_context.proofs.Signs.{signed_low, signed_high}
 use Rattle.odc_text.specs.declared.place.Place.{Place}
 use Rattle.odc_text.specs.Run.{out, Log}
 use Rattle.rv_table.specs.Words.{plus, minus, quotient, remainder}
-use Rattle.odc_program.specs.declared.tree.BinaryOp.{BinaryOp}
-use Rattle.odc_program.specs.declared.tree.BinaryOp.TheVariants.{Add, Subtract, Multiply, Divide, Remainder}
-use Rattle.odc_program.specs.Bytes.{Address, Value, bytes_of, number_of, after_byte, int_of}
-use Rattle.odc_program.specs.Source.{State, Res, ok, then_by, exact, wrapped, operate, operate_on, result_of, print_read, print_int, print_rest, print_line, int_text}
+use Rattle.odc_typed.specs.declared.tree.BinaryOp.{BinaryOp}
+use Rattle.odc_typed.specs.declared.tree.BinaryOp.TheVariants.{Add, Subtract, Multiply, Divide, Remainder}
+use Rattle.odc_typed.specs.Bytes.{Address, Value, bytes_of, number_of, after_byte, int_of}
+use Rattle.odc_typed.specs.Source.{State, Res, ok, then_by, exact, wrapped, operate, operate_on, result_of, print_read, print_int, print_rest, print_line, int_text}
 
 -- ---- words and their bytes
 

@@ -3,11 +3,11 @@
 use Rattle.std.proofs.Common.{◌≡◌, ℕ, ◌+◌, ◌^◌, ◌<◌, ◌≤◌, ◌⊎◌, inl, inr, Bool, true, false, arith, ap, ◌∙◌, sym, subst, refl}
 use Rattle.std.specs.Prelude.{◌==◌, ◌&&◌, Option, Some, None, nat_lt, if◌then◌else◌}
 use Rattle.std.proofs.lemmas.Bool.Decides.{nat_tests}
-use Rattle.odc_program.specs.Bytes.{Block, variable, Byte, Value, bytes_of}
-use Rattle.odc_program.specs.Memory.{Memory, stretch, written, same, at_block, fits, load, store, put, open_block, is_of, close}
-use Rattle.odc_program.specs.Place.{place_of}
-use Rattle.odc_program.specs.Frame.{variable_place}
-use Rattle.odc_program.specs.Source.{Env, block_of}
+use Rattle.odc_typed.specs.Bytes.{Block, variable, Byte, Value, bytes_of}
+use Rattle.odc_typed.specs.Memory.{Memory, stretch, written, same, at_block, fits, load, store, put, open_block, is_of, close}
+use Rattle.odc_typed.specs.Place.{place_of}
+use Rattle.odc_typed.specs.Frame.{variable_place}
+use Rattle.odc_typed.specs.Source.{Env, block_of}
 use Rattle.odc_core.specs.Words.{bytes_of as numbers_of}
 use Rattle.odc_core.specs.Memory.{Memory as Flat}
 use Rattle.odc_core.specs.Memory.{put as flat_put}

@@ -4,11 +4,11 @@ use Rattle.std.specs.Prelude.{if◌then◌else◌}
 use Rattle.std.proofs.Math.Nat.{add-zero}
 use Rattle.odc_text.specs.declared.place.Place.{Place}
 use Rattle.odc_text.specs.Run.{Log}
-use Rattle.odc_program.specs.Tree.{Expr}
-use Rattle.odc_program.specs.Bytes.{Value}
-use Rattle.odc_program.specs.Memory.{Memory as Blocks}
-use Rattle.odc_program.specs.Well.{Signature, Scope}
-use Rattle.odc_program.specs.Source.{State, Res, ok, stop, then_by, Calls, Env, value_of}
+use Rattle.odc_typed.specs.Tree.{Expr}
+use Rattle.odc_typed.specs.Bytes.{Value}
+use Rattle.odc_typed.specs.Memory.{Memory as Blocks}
+use Rattle.odc_typed.specs.Well.{Signature, Scope}
+use Rattle.odc_typed.specs.Source.{State, Res, ok, stop, then_by, Calls, Env, value_of}
 use Rattle.odc_core.specs.Tree.{Stmts, finish, follow}
 use Rattle.odc_core.specs.Memory.{Memory}
 use Rattle.odc_core.specs.Run.{Flow, falls, leaves, answers, after, World, spend, pure, ◌>>=◌}
@@ -22,9 +22,9 @@ use Rattle.odc_context.proofs.Ties.{Floor, Stays, stays_on}
 use Rattle.odc_context.proofs.Exprs.{Fits, Ready, Live, live_on, r_waits}
 use Rattle.odc_context.proofs.Nodes.{CallsFollow}
 use Rattle.rv_table.specs.Words.{flag}
-use Rattle.odc_program.specs.Bytes.{number_of}
-use Rattle.odc_program.specs.Source.{bool_bytes, truth_of, read_bool, Flow as Left, falls as left_falls}
-use Rattle.odc_program.specs.Well.{IsCondition}
+use Rattle.odc_typed.specs.Bytes.{number_of}
+use Rattle.odc_typed.specs.Source.{bool_bytes, truth_of, read_bool, Flow as Left, falls as left_falls}
+use Rattle.odc_typed.specs.Well.{IsCondition}
 use Rattle.odc_context.proofs.Conditions.{Tested, condition_sim}
 use Rattle.odc_context.proofs.Sims.{sim_spent, Spends, Begins, sim_turn, onto_onto, then_then}
 use Rattle.odc_context.proofs.Turns.{rest_of, begins}
@@ -32,8 +32,8 @@ use Rattle.odc_context.specs.Code.{turn_code}
 use Rattle.odc_context.proofs.Frame.{r_choose, r_leave}
 use Rattle.odc_core.specs.Tree.{choose as branch, leave}
 use Rattle.odc_core.specs.Run.{after_turn}
-use Rattle.odc_program.specs.Source.{turns_while, turn, returns}
-use Rattle.odc_program.specs.Source.{after as left_after}
+use Rattle.odc_typed.specs.Source.{turns_while, turn, returns}
+use Rattle.odc_typed.specs.Source.{after as left_after}
 use Rattle.odc_text.specs.Run.{going}
 use Rattle.odc_context.proofs.Stmts.{Done, Result, result_on, ready_now}
 use Rattle.odc_context.proofs.Forms.{bool_read}

@@ -3,12 +3,12 @@ use Rattle.std.proofs.Common.{◌≡◌, ℕ, suc, ◌+◌, ◌*◌, ◌<◌, �
 use Rattle.std.specs.Prelude.{Some, slice_get}
 use Rattle.odc_text.specs.declared.place.Place.{Place}
 use Rattle.odc_text.specs.Run.{Log}
-use Rattle.odc_program.specs.declared.tree.Constant.TheVariants.{Int}
-use Rattle.odc_program.specs.Tree.{Expr, const, local, binary, call, builtin, Exprs, none, more}
-use Rattle.odc_program.specs.Bytes.{Value, bytes_of}
-use Rattle.odc_program.specs.Memory.{Memory as Blocks}
-use Rattle.odc_program.specs.Well.{IsInt, AreInts, Signature, Scope}
-use Rattle.odc_program.specs.Source.{State, Res, ok, stop, then_by, Calls, Env, value_of, values_of}
+use Rattle.odc_typed.specs.declared.tree.Constant.TheVariants.{Int, Bool as Truth}
+use Rattle.odc_typed.specs.Tree.{Expr, const, local, binary, call, builtin, Exprs, none, more}
+use Rattle.odc_typed.specs.Bytes.{Value, bytes_of}
+use Rattle.odc_typed.specs.Memory.{Memory as Blocks}
+use Rattle.odc_typed.specs.Well.{IsInt, AreInts, Signature, Scope}
+use Rattle.odc_typed.specs.Source.{State, Res, ok, stop, then_by, Calls, Env, value_of, values_of}
 use Rattle.odc_core.specs.Tree.{Stmts, finish}
 use Rattle.odc_core.specs.Tree.{call as called}
 use Rattle.odc_core.specs.Memory.{Memory}
@@ -96,6 +96,7 @@ module _ (entries : ℕ → ℕ) (n : ℕ) (world : World) (at : Place) (o : Own
           Ready entries n world at o env size src0 outer fits floor s.memory s.memory s.serial s.left m → map (read entries) s.log ≡ l →
           Sim entries (Valued entries n world at o env size src0 outer fits floor s.memory m d) j 0 40 (ex j world at low o outer (expr_code o d e)) s m l (value_of calls env e s)
       expr_sim (const at' (Int z)) d s m l h fit live ready logs = const_sim entries n world at o env size src0 outer fits floor j at' z d s m l h (omega arith) ready logs calls
+      expr_sim (const at' (Truth b)) d s m l h fit live ready logs = absurd h
       expr_sim (local at' x) d s m l h fit live ready logs = local_sim entries n world at o env size src0 outer fits floor j at' x d scope s m l h (omega arith) live ready logs calls
       expr_sim (binary at' op left right) d s m l h fit live ready logs =
           binary_sim entries n world at o env size src0 outer fits floor j at' op left right d s m l calls h.0 (omega (arith, depth_some ss scope right h.1.1)) logs

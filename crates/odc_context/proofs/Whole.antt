@@ -4,12 +4,12 @@ use Rattle.std.specs.Prelude.{Option, Some, None, slice_get, if◌then◌else◌
 use Rattle.odc_text.specs.declared.check.Check.TheVariants.{Stack}
 use Rattle.odc_text.specs.Run.{End, exited, checked, strayed, trapped, going, EndsAgree, HasEnded, HasStrayed, Agree}
 use Rattle.odc_text.specs.Follow.{KeepsOn}
-use Rattle.odc_program.specs.Tree.{Proc, Whole}
-use Rattle.odc_program.specs.Bytes.{Block, Value}
-use Rattle.odc_program.specs.Memory.{empty}
-use Rattle.odc_program.specs.Frame.{frame}
-use Rattle.odc_program.specs.Well.{signatures, IsWell, IsMain}
-use Rattle.odc_program.specs.Source.{State, Res, ok, stop, Env, env_of, body_run, numbered, enter as source_enter, calls_of as source_calls, first_state as source_first, ending as source_ending, source}
+use Rattle.odc_typed.specs.Tree.{Proc, Whole}
+use Rattle.odc_typed.specs.Bytes.{Block, Value}
+use Rattle.odc_typed.specs.Memory.{empty}
+use Rattle.odc_typed.specs.Frame.{frame}
+use Rattle.odc_typed.specs.Well.{signatures, IsWell, IsMain}
+use Rattle.odc_typed.specs.Source.{State, Res, ok, stop, Env, env_of, body_run, numbered, enter as source_enter, calls_of as source_calls, first_state as source_first, ending as source_ending, source}
 use Rattle.odc_core.specs.Memory.{Memory}
 use Rattle.odc_core.specs.Program.{first_memory}
 use Rattle.odc_core.specs.Frames.{stack_end, touched_always, has_room}

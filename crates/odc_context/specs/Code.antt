@@ -3,16 +3,18 @@
 -- place of its first byte, and the number that is printed.
 use Rattle.std.specs.Prelude.{ℕ, zero, suc, ◌+◌, ◌*◌, max, List, [], ◌∷◌, ◌++◌, map, length}
 use Rattle.std.specs.Int.{w64, cast_unsigned}
+use Rattle.rv_table.specs.Words.{flag}
 use Rattle.odc_text.specs.declared.place.Place.{Place}
 use Rattle.odc_text.specs.declared.check.Check.TheVariants.{Division}
-use Rattle.odc_program.specs.declared.tree.Constant.{Constant}
-use Rattle.odc_program.specs.declared.tree.Constant.TheVariants.{Int}
-use Rattle.odc_program.specs.declared.tree.BinaryOp.{BinaryOp as Operation}
-use Rattle.odc_program.specs.declared.tree.BinaryOp.TheVariants.{Add as Plus, Subtract as Minus, Multiply as Times, Divide as Over, Remainder as Rest, Less as Under, Equal as Same}
-use Rattle.odc_program.specs.declared.tree.Builtin.TheVariants.{Println}
-use Rattle.odc_program.specs.declared.tree.Local.{Local}
-use Rattle.odc_program.specs.Frame.{variables, frame}
-use Rattle.odc_program.specs.Tree.{Expr, const, local, binary, call, builtin, Exprs, none, more, Stmt, eval, declare, assign, choose, repeat, answer, Stmts, finish, follow, Proc, Whole}
+use Rattle.odc_typed.specs.declared.tree.Constant.{Constant}
+use Rattle.odc_typed.specs.declared.tree.Constant.TheVariants.{Int, Bool as Truth}
+use Rattle.odc_typed.specs.declared.tree.BinaryOp.{BinaryOp as Operation}
+use Rattle.odc_typed.specs.declared.tree.BinaryOp.TheVariants.{Add as Plus, Subtract as Minus, Multiply as Times, Divide as Over, Remainder as Rest, Less as Under, Equal as Same}
+use Rattle.odc_typed.specs.declared.tree.Builtin.{Builtin}
+use Rattle.odc_typed.specs.declared.tree.Builtin.TheVariants.{Println}
+use Rattle.odc_typed.specs.declared.tree.Local.{Local}
+use Rattle.odc_typed.specs.Frame.{variables, frame}
+use Rattle.odc_typed.specs.Tree.{Expr, const, local, binary, call, builtin, Exprs, none, more, Stmt, eval, declare, assign, choose, repeat, answer, Stmts, finish, follow, Proc, Whole}
 use Rattle.odc_core.specs.declared.tree.Width.TheVariants.{Byte, Double}
 use Rattle.odc_core.specs.declared.tree.BinaryOp.TheVariants.{Add, Subtract, Multiply, Divide, Remainder, DivideUnsigned, RemainderUnsigned}
 use Rattle.odc_core.specs.declared.tree.Comparison.TheVariants.{Equal, Less}
@@ -111,16 +113,19 @@ digit_code o =
 abbrev pub write_code : Own → CoreStmt
 write_code o = write Out (held (pointer_at o)) (operated Subtract (operated Add (slot (buffer_at o)) (word 32)) (held (pointer_at o)))
 
--- the value that waits at a depth, and a byte behind it
+-- the digits and the sign of the value that waits at a depth
+abbrev pub text_code : Own → ℕ → CoreStmts
+text_code o d =
+    then (put (number_at o) (waits o d))
+    (then (branch (compare Less (waits o d) (word 0)) (one (put (number_at o) (operated Subtract (word 0) (waits o d)))) done)
+    (then (loop (digit_code o))
+    (one (branch (compare Less (waits o d) (word 0)) (before o (word 45)) done))))
+
+-- that value, and a byte behind it
 abbrev pub print_code : Own → ℕ → ℕ → CoreStmts
 print_code o d behind =
     then (put (pointer_at o) (operated Add (slot (buffer_at o)) (word 32)))
-    (join (before o (word behind))
-    (then (put (number_at o) (waits o d))
-    (then (branch (compare Less (waits o d) (word 0)) (one (put (number_at o) (operated Subtract (word 0) (waits o d)))) done)
-    (then (loop (digit_code o))
-    (then (branch (compare Less (waits o d) (word 0)) (before o (word 45)) done)
-    (one (write_code o)))))))
+    (join (before o (word behind)) (join (text_code o d) (one (write_code o))))
 
 -- n values, each with what follows it
 abbrev pub values_code : Own → ℕ → ℕ → CoreStmts
@@ -141,6 +146,7 @@ line_code o d (suc n) = values_code o d (suc n)
 
 abbrev pub constant_word : Constant → ℕ
 constant_word (Int value) = cast_unsigned w64 value
+constant_word (Truth value) = flag value
 
 -- both operands wait
 abbrev pub operation_code : Own → ℕ → Place → Operation → CoreStmts
@@ -152,6 +158,10 @@ operation_code o d at Rest = then (check (waits o (d + 1)) Division at) (one (wa
 operation_code o d at Under = one (wait o d (compare Less (waits o d) (waits o (d + 1))))
 operation_code o d at Same = one (wait o d (compare Equal (waits o d) (waits o (d + 1))))
 
+-- the arguments wait
+abbrev pub builtin_code : Own → ℕ → Builtin → ℕ → CoreStmts
+builtin_code o d Println n = line_code o d n
+
 abbrev pub count : Exprs → ℕ
 count none = 0
 count (more e es) = suc (count es)
@@ -162,7 +172,7 @@ abbrev mutual
   expr_code o d (local at x) = one (wait o d (held x))
   expr_code o d (binary at op left right) = join (expr_code o d left) (join (expr_code o (d + 1) right) (operation_code o d at op))
   expr_code o d (call at f arguments) = join (exprs_code o d arguments) (one (wait o d (called f (all_waiting o d (count arguments)))))
-  expr_code o d (builtin at Println arguments) = join (exprs_code o d arguments) (line_code o d (count arguments))
+  expr_code o d (builtin at which arguments) = join (exprs_code o d arguments) (builtin_code o d which (count arguments))
 
   pub exprs_code : Own → ℕ → Exprs → CoreStmts
   exprs_code o d none = done
@@ -188,6 +198,14 @@ abbrev mutual
 abbrev pub turn_code : CoreStmt
 turn_code = skip (word 0)
 
+-- a loop is left where its condition, which waits first, is false, and else a turn begins
+abbrev pub test_code : Own → CoreStmts
+test_code o = then (branch (waits o 0) done (one (leave 0))) (one turn_code)
+
+-- the answer waits first
+abbrev pub answer_code : Own → CoreStmts
+answer_code o = then (put o.result (waits o 0)) (one (answered (held o.result)))
+
 -- what a place gets waits first
 abbrev pub place_code : Own → Expr → CoreStmts
 place_code o (local at x) = one (put x (waits o 0))
@@ -200,8 +218,8 @@ abbrev mutual
   stmt_code o (assign at target value) = join (expr_code o 0 value) (place_code o target)
   stmt_code o (choose at condition body) = join (expr_code o 0 condition) (one (branch (waits o 0) (stmts_code o body) done))
   stmt_code o (repeat at condition body) =
-      one (loop (join (expr_code o 0 condition) (then (branch (waits o 0) done (one (leave 0))) (then turn_code (stmts_code o body)))))
-  stmt_code o (answer at value) = join (expr_code o 0 value) (then (put o.result (waits o 0)) (one (answered (held o.result))))
+      one (loop (join (expr_code o 0 condition) (join (test_code o) (stmts_code o body))))
+  stmt_code o (answer at value) = join (expr_code o 0 value) (answer_code o)
 
   pub stmts_code : Own → Stmts → CoreStmts
   stmts_code o finish = done

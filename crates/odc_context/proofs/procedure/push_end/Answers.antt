@@ -1,0 +1,6 @@
+use Rattle.odc_context.specs.View.{own}
+use Rattle.odc_context.proofs.Lists.{end_none}
+use Rattle.odc_context.proofs.procedure.push_end.Goals as goal
+
+pub returns-in-empty : goal.returns-in-empty
+returns-in-empty c = end_none (own c.args.o) c.args.results.now c.args.code.now.items c.in-empty.len_below
