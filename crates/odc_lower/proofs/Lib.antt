@@ -1,4 +1,3 @@
-pub mod Views
 pub mod Plains
 pub mod Runs
 pub mod Sims

@@ -27,7 +27,7 @@ variables_many zero vs h = omega arith
 variables_many (suc n) [] h = absurd h
 variables_many (suc n) (v ∷ vs) h = omega (arith, variables_many n vs h.1)
 
-procedure_length : (p : Proc) → length (procedure_code p) ≡ 2 * p.parameters + stmts_size p.body + 2
+pub procedure_length : (p : Proc) → length (procedure_code p) ≡ 2 * p.parameters + stmts_size p.body + 2
 procedure_length p =
     let d : ℕ = p.parameters in
     join_three (parameters_code d 0 d) (stmts_code d [] (2 * d) p.body) (const_step d 0 ∷ return_step d ∷ []) (2 * d) (stmts_size p.body) 2 (parameters_length d 0 d) (stmts_length p.body d [] (2 * d)) refl

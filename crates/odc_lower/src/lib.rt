@@ -6,6 +6,7 @@
 
 mod bytes;
 mod expression;
+pub mod laws;
 pub mod lower;
 mod procedure;
 mod size;

@@ -7,7 +7,7 @@ use Rattle.odc_lower.specs.Size.{expr_nodes, exprs_nodes}
 use Rattle.odc_lower.proofs.Emitted.{call_emitted, call_value_emitted, exprs_more}
 use Rattle.odc_lower.proofs.Lists.{nodes_here, exprs_many}
 use Rattle.odc_lower.proofs.Sizes.{expr_some}
-use Rattle.odc_lower.proofs.Views.{call_is, call_value_is}
+use Rattle.odc_core.proofs.Views.{call_is, call_value_is}
 use Rattle.odc_lower.proofs.expression.+expressions.Goals as goal
 
 pub emit_expr-emit_exprs-requires : goal.emit_expr-emit_exprs-requires

@@ -3,7 +3,7 @@ use Rattle.odc_core.specs.declared.tree.CoreExpr.{the_lemmas}
 use Rattle.odc_core.specs.View.{expr, exprs}
 use Rattle.odc_lower.specs.Size.{expr_nodes, exprs_nodes}
 use Rattle.odc_lower.proofs.Lists.{nodes_here}
-use Rattle.odc_lower.proofs.Views.{call_is, call_value_is}
+use Rattle.odc_core.proofs.Views.{call_is, call_value_is}
 use Rattle.odc_lower.proofs.size.+counts.Goals as goal
 
 pub count-count_all-requires : goal.count-count_all-requires

@@ -5,7 +5,7 @@ use Rattle.odc_core.specs.View.{expr, exprs}
 use Rattle.odc_lower.specs.Size.{expr_nodes, exprs_nodes, expr_room, exprs_room}
 use Rattle.odc_lower.proofs.Lists.{nodes_here, room_here, room_end}
 use Rattle.odc_lower.proofs.Sizes.{expr_some, expr_room_small, expr_room_some, exprs_room_small}
-use Rattle.odc_lower.proofs.Views.{call_is, call_value_is}
+use Rattle.odc_core.proofs.Views.{call_is, call_value_is}
 use Rattle.odc_lower.proofs.size.+rooms.Goals as goal
 
 pub room-room_of_all-requires : goal.room-room_of_all-requires

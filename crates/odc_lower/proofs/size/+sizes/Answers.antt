@@ -4,7 +4,7 @@ use Rattle.odc_core.specs.View.{expr, stmt, stmts}
 use Rattle.odc_lower.specs.Size.{expr_nodes, stmt_nodes, stmts_nodes, stmt_size, stmts_size}
 use Rattle.odc_lower.proofs.Lists.{stmts_nodes_here, stmts_nodes_left, stmts_size_here}
 use Rattle.odc_lower.proofs.Sizes.{stmts_size_small}
-use Rattle.odc_lower.proofs.Views.{choice_is, loop_is}
+use Rattle.odc_core.proofs.Views.{choice_is, loop_is}
 use Rattle.odc_lower.proofs.size.+sizes.Goals as goal
 
 pub size-size_of_all-requires : goal.size-size_of_all-requires

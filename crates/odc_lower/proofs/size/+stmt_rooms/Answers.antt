@@ -4,7 +4,7 @@ use Rattle.odc_core.specs.declared.tree.CoreStmt.{the_lemmas}
 use Rattle.odc_core.specs.View.{expr, stmt, stmts}
 use Rattle.odc_lower.specs.Size.{expr_nodes, stmt_nodes, stmts_nodes, expr_room, stmt_room, stmts_room}
 use Rattle.odc_lower.proofs.Lists.{stmts_nodes_here, stmts_nodes_left, stmts_room_here}
-use Rattle.odc_lower.proofs.Views.{choice_is, loop_is}
+use Rattle.odc_core.proofs.Views.{choice_is, loop_is}
 use Rattle.odc_lower.proofs.size.+stmt_rooms.Goals as goal
 
 pub stmt_needs-needs_of_all-requires : goal.stmt_needs-needs_of_all-requires

@@ -9,7 +9,7 @@ use Rattle.odc_lower.proofs.Emitted.{grown, pushed, choice_emitted, loop_emitted
 use Rattle.odc_lower.proofs.Lengths.{expr_length, stmt_length, stmts_length}
 use Rattle.odc_lower.proofs.Lists.{stmts_nodes_here, stmts_nodes_left}
 use Rattle.odc_lower.proofs.Sizes.{stmt_size_small, stmts_size_small}
-use Rattle.odc_lower.proofs.Views.{choice_is, loop_is}
+use Rattle.odc_core.proofs.Views.{choice_is, loop_is}
 use Rattle.odc_lower.proofs.statement.+statements.Goals as goal
 
 pub emit_stmt-position-requires : goal.emit_stmt-position-requires
