@@ -16,5 +16,7 @@ pub mod Returns
 pub mod Runs
 pub mod Placed
 pub mod Begin
-pub mod Fronts
+pub mod Tables
+pub mod Able
 pub mod Fitting
+pub mod Blocks

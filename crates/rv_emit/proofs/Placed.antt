@@ -90,7 +90,7 @@ steps_long around site (s ∷ ss) =
     let rest : length (steps_code around (site + length (step_sites s)) ss) ≡ steps_size ss = steps_long around (site + length (step_sites s)) ss in
     omega (arith, rest, step_long around site s, length-append (step_code around site s) (steps_code around (site + length (step_sites s)) ss))
 
-proc_long : (around : Around) (site : ℕ) (p : Proc) → length (proc_code around site p) ≡ proc_size p
+pub proc_long : (around : Around) (site : ℕ) (p : Proc) → length (proc_code around site p) ≡ proc_size p
 proc_long around site p = omega (arith, steps_long around (site + 1) p.steps, length-append (enter_code p.frame site) (steps_code around (site + 1) p.steps))
 
 procs_long : (w : Whole) (at site : ℕ) (ps : List Proc) → length (procs_code w at site ps) ≡ procs_size ps
@@ -316,12 +316,12 @@ setting w well short = record {
   low = well.low;
 }
 
-well_proc : (w : Whole) (ps : List Proc) (f : ℕ) (p : Proc) → AllWell w ps → slice_get ps f ≡ Some p → IsWellProc w p
+pub well_proc : (w : Whole) (ps : List Proc) (f : ℕ) (p : Proc) → AllWell w ps → slice_get ps f ≡ Some p → IsWellProc w p
 well_proc w [] f p h e = cc
 well_proc w (x ∷ ps) zero p h e = let same : x ≡ p = cc in let P : Proc → Type 0 = λ y. IsWellProc w y in subst P same h.0
 well_proc w (x ∷ ps) (suc f) p h e = well_proc w ps f p h.1 e
 
-slots_proc : (ps : List Proc) (f : ℕ) (p : Proc) → AllHaveSlots ps → slice_get ps f ≡ Some p → HasSlots p
+pub slots_proc : (ps : List Proc) (f : ℕ) (p : Proc) → AllHaveSlots ps → slice_get ps f ≡ Some p → HasSlots p
 slots_proc [] f p h e = cc
 slots_proc (x ∷ ps) zero p h e = let same : x ≡ p = cc in let P : Proc → Type 0 = λ y. HasSlots y in subst P same h.0
 slots_proc (x ∷ ps) (suc f) p h e = slots_proc ps f p h.1 e

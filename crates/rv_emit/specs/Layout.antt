@@ -76,7 +76,7 @@ IsSlot frame t = 8 * (t + 1) ≤ frame
 abbrev pub IsPlaced : Around → ℕ → Named → Type 0
 IsPlaced around procs (OfVariable x) = (x < length around.variables) × (offset_of (slice_get around.variables x) < 2 ^ 31)
 IsPlaced around procs (Stored n) = (n < length around.addresses) × (get_or around.addresses n 0 < 2 ^ 31)
-IsPlaced around procs (Procedure f) = (f ≤ procs) × (around.entries f < 2 ^ 31)
+IsPlaced around procs (Procedure f) = (f < procs) × (around.entries f < 2 ^ 31)
 
 abbrev pub AreFew : List ℕ → Type 0
 AreFew ts = 8 * length ts < 2 ^ 31
@@ -96,9 +96,9 @@ CanEmit around steps procs (Binary to op left right) = IsSlot around.frame to ×
 CanEmit around steps procs (Compare to op left right) = IsSlot around.frame to × (IsSlot around.frame left × IsSlot around.frame right)
 CanEmit around steps procs (Load to width a) = IsSlot around.frame to × IsSlot around.frame a
 CanEmit around steps procs (Store width a value) = IsSlot around.frame a × IsSlot around.frame value
-CanEmit around steps procs (Jump label) = (label ≤ steps) × (around.place label < 2 ^ 31)
-CanEmit around steps procs (Branch condition label) = IsSlot around.frame condition × ((label ≤ steps) × (around.place label < 2 ^ 31))
-CanEmit around steps procs (Call to f arguments) = (IsSlot around.frame to × AreSlots around.frame arguments.items) × (AreFew arguments.items × ((f ≤ procs) × (around.entries f < 2 ^ 31)))
+CanEmit around steps procs (Jump label) = (label < steps) × (around.place label < 2 ^ 31)
+CanEmit around steps procs (Branch condition label) = IsSlot around.frame condition × ((label < steps) × (around.place label < 2 ^ 31))
+CanEmit around steps procs (Call to f arguments) = (IsSlot around.frame to × AreSlots around.frame arguments.items) × (AreFew arguments.items × ((f < procs) × (around.entries f < 2 ^ 31)))
 CanEmit around steps procs (CallValue to target arguments marked) = (IsSlot around.frame to × (IsSlot around.frame target × AreSlots around.frame arguments.items)) × AreFew arguments.items
 CanEmit around steps procs (Return value) = IsSlot around.frame value
 CanEmit around steps procs (Check condition which at) = IsSlot around.frame condition

@@ -1,11 +1,19 @@
-// From mid code to what the machine loads. The instructions of each step are data in `specs/Code.antt`;
-// that the machine's run of them keeps the mid run is proved from the machine's definition. The functions
-// give just these instructions, as far as whole procedures; the ranges, sites and calls of an image are
-// not put together yet.
+// From mid code to what the machine loads: `image` puts together the text of a program, the sites of its
+// checks and its calls of allocators. It assumes a sane program whose temporaries have slots in their
+// frames and whose text lies below the store. It promises that the words of the text are the instructions
+// that `specs/Code.antt` gives as data, that each procedure becomes the block at its entry, and that on
+// every input of bytes the machine's run of the image keeps the mid run. Between them stand functions that
+// give just the instructions of each step, with tables of addresses that are made once.
 #![tactic(auto)]
 
-pub mod block;
-pub mod emit;
-pub mod encoded;
-pub mod sizes;
-pub mod step;
+mod block;
+mod emit;
+mod encoded;
+pub mod image;
+pub mod laws;
+pub mod limits;
+pub mod loaded;
+mod sizes;
+mod step;
+#[cfg(test)]
+mod tests;

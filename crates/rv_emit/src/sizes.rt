@@ -1,11 +1,13 @@
-//! How many instructions each step has, and where each block begins.
+//! How many instructions each step has, and where each block and each step's code begins.
 
-ghost use Rattle.std.specs.Prelude.{◌≡◌, ℕ, ◌+◌, ◌*◌, ◌^◌, ◌<◌, ◌≤◌, length, map, take};
+ghost use Rattle.std.specs.Prelude.{◌≡◌, ℕ, ◌+◌, ◌*◌, ◌^◌, ◌<◌, ◌≤◌, length, map, IfOk};
 ghost use Rattle.odc_mid.specs.View.{proc};
+ghost use Rattle.rv_emit.specs.Tables.{IsTable};
 ghost use Rattle.rv_emit.specs.Code.{compare_code, text_start, start_size, enter_size, named_size as size_of_named, value_size as size_of_value, system_size as size_of_system, step_size as size_of_step, steps_size as size_of_steps, size_before as size_in_front, proc_size as size_of_proc, procs_size as size_of_procs, procs_before as size_of_procs_before};
 
 use odc_core::tree::Comparison;
 use odc_mid::tree::{MidProcedure, MidStep, Named, SystemCall};
+use std::alloc::{AllocError, Global};
 
 /// The instructions that put an address into a register.
 fn named_size(of: Named) -> u64
@@ -97,32 +99,40 @@ pub fn proc_size(p: &MidProcedure) -> u64
     17 + steps_size(&p.steps)
 }
 
-/// The instructions of all procedures.
-pub fn procs_size(procedures: &[MidProcedure]) -> u64
-    requires { size_of_procs (map proc procedures.now) < 2 ^ 32 }
-    ensures { result ≡ size_of_procs (map proc procedures.now) }
+/// Where the code of a procedure stands.
+#[derive(Drop)]
+pub struct Block {
+    /// The address of its first instruction.
+    pub at: u64,
+    /// The address of the code of each step.
+    pub places: Vec<u64>,
+}
+
+/// Where the code of each step stands, in a procedure whose code begins at an address.
+pub fn block_of(alloc: Global, q: &MidProcedure, at: u64) -> Result<Block, AllocError>
+    requires low { at + 4 * size_of_proc (proc q.now) < 2 ^ 32 }
+    ensures at { IfOk result (λ b. b.at ≡ at) }
+    ensures places { IfOk result (λ b. IsTable b.places.items (length q.now.steps.items) (λ i. at + 4 * (enter_size + size_in_front q.now.steps.items i))) }
 {
-    let mut total = 0;
-    for p in procedures {
-        total += proc_size(p);
+    let mut places = Vec::with_capacity(alloc, q.steps.len())?;
+    let mut next = at + 68;
+    for step in &q.steps {
+        places.push(next)?;
+        next += 4 * step_size(step);
     }
-    total
+    Ok(Block { at, places })
 }
 
-/// The address of the code of the step at a position, in a procedure whose code begins at an address.
-pub fn place_of(steps: &[MidStep], at: u64, label: u32) -> u64
-    requires inside { label ≤ length steps.now }
-    requires low { at + 4 * (enter_size + size_of_steps steps.now) < 2 ^ 32 }
-    ensures { result ≡ at + 4 * (enter_size + size_in_front steps.now label) }
+/// The address of the first instruction of each procedure.
+pub fn entries_of(alloc: Global, procedures: &[MidProcedure]) -> Result<Vec<u64>, AllocError>
+    requires { 4 * (start_size + size_of_procs (map proc procedures.now)) ≤ 0x4fff_0000 }
+    ensures { IfOk result (λ entries. IsTable entries.items (length procedures.now) (λ f. text_start + 4 * (start_size + size_of_procs_before (map proc procedures.now) f))) }
 {
-    at + 4 * (17 + steps_size(&steps[..label as usize]))
-}
-
-/// The address of the first instruction of the procedure at a position.
-pub fn entry_of(procedures: &[MidProcedure], f: u32) -> u64
-    requires inside { f ≤ length procedures.now }
-    requires low { 4 * (start_size + size_of_procs (map proc procedures.now)) ≤ 0x4fff_0000 }
-    ensures { result ≡ text_start + 4 * (start_size + size_of_procs_before (map proc procedures.now) f) }
-{
-    0x10000 + 4 * (10 + procs_size(&procedures[..f as usize]))
+    let mut entries = Vec::with_capacity(alloc, procedures.len())?;
+    let mut next = 0x10028;
+    for p in procedures {
+        entries.push(next)?;
+        next += 4 * proc_size(p);
+    }
+    Ok(entries)
 }

@@ -1,11 +1,12 @@
 //! The code of a step, whichever it is.
 
-ghost use Rattle.std.specs.Prelude.{◌≡◌, ℕ, ◌+◌, ◌*◌, ◌^◌, ◌<◌, ◌≤◌, ◌++◌, pos, [], ◌∷◌, length, map, OnOk};
+ghost use Rattle.std.specs.Prelude.{◌≡◌, ℕ, ◌+◌, ◌*◌, ◌^◌, ◌<◌, ◌≤◌, ◌++◌, pos, [], ◌∷◌, length, map, OnOk, IfOk};
 ghost use Rattle.rv_table.specs.declared.inst.Inst.TheVariants.{Add, Addi, Ecall};
 ghost use Rattle.odc_mid.specs.View.{proc, program};
 ghost use Rattle.odc_mid.specs.declared.tree.SystemCall.TheVariants.{Read, Write, Exit};
-ghost use Rattle.rv_emit.specs.Code.{descriptor_number as number_of_descriptor, store_slot as slot_stored, around_of, enter_size, named_code, number_code, system_code, step_code, step_sites, steps_code, proc_code, steps_size as size_of_steps};
-ghost use Rattle.rv_emit.specs.Layout.{AreSystemSlots, IsPlaced, CanEmit, AllCanEmit, IsShort};
+ghost use Rattle.rv_emit.specs.Code.{descriptor_number as number_of_descriptor, store_slot as slot_stored, around_of, entry_of, named_code, number_code, system_code, step_code, step_sites, steps_code, steps_sites, proc_code, proc_sites, proc_size as size_of_proc, steps_size as size_of_steps};
+ghost use Rattle.rv_emit.specs.Layout.{AreSystemSlots, IsPlaced, CanEmit, AllCanEmit};
+ghost use Rattle.rv_emit.specs.Tables.{IsTable};
 
 use crate::block::{
     emit_binary_step, emit_branch, emit_check, emit_compare_step, emit_const, emit_load, emit_move,
@@ -15,11 +16,11 @@ use crate::emit::{
     emit_call, emit_enter, emit_jump, emit_marked_call, emit_number, emit_plain_call, emit_return,
     emit_service, load_slot, store_slot,
 };
-use crate::sizes::{entry_of, place_of};
+use crate::sizes::{Block, block_of};
 use odc_core::tree::Descriptor;
 use odc_mid::tree::{MidProcedure, MidProgram, MidStep, Named, SystemCall};
 use rv_table::inst::Inst;
-use std::alloc::AllocError;
+use std::alloc::{AllocError, Global};
 
 /// Appends the instructions of a read.
 fn emit_read(
@@ -99,17 +100,18 @@ fn emit_system(code: &mut Vec<Inst>, frame: u64, call: SystemCall) -> Result<(),
 fn emit_named(
     code: &mut Vec<Inst>,
     p: &MidProgram,
+    entries: &[u64],
     q: &MidProcedure,
     of: Named,
 ) -> Result<(), AllocError>
     requires placed { IsPlaced (around_of (program p.now) 0 (proc q.now)) (length p.now.procedures.items) of }
-    requires short { IsShort (program p.now) }
+    requires entries { IsTable entries.now (length p.now.procedures.items) (entry_of (program p.now)) }
     ensures { OnOk result (code.new.items ≡ code.old.items ++ named_code (around_of (program p.now) 0 (proc q.now)) of) }
 {
     match of {
         Named::Variable(x) => emit_offset(code, u64::from(q.variables[x as usize].offset)),
         Named::Stored(n) => emit_number(code, 6, p.addresses[n as usize]),
-        Named::Procedure(f) => emit_number(code, 6, entry_of(&p.procedures, f)),
+        Named::Procedure(f) => emit_number(code, 6, entries[f as usize]),
     }
 }
 
@@ -131,40 +133,42 @@ fn emit_offset(code: &mut Vec<Inst>, offset: u64) -> Result<(), AllocError>
 fn emit_address(
     code: &mut Vec<Inst>,
     p: &MidProgram,
+    entries: &[u64],
     q: &MidProcedure,
-    frame: u64,
     to: u32,
     of: Named,
 ) -> Result<(), AllocError>
     requires placed { IsPlaced (around_of (program p.now) 0 (proc q.now)) (length p.now.procedures.items) of }
-    requires short { IsShort (program p.now) }
-    requires slot { (frame ≤ 2 ^ 24) × (8 * (to + 1) ≤ frame) }
-    ensures { OnOk result (code.new.items ≡ code.old.items ++ (named_code (around_of (program p.now) 0 (proc q.now)) of ++ slot_stored frame 6 to)) }
+    requires entries { IsTable entries.now (length p.now.procedures.items) (entry_of (program p.now)) }
+    requires slot { (q.now.frame ≤ 2 ^ 24) × (8 * (to + 1) ≤ q.now.frame) }
+    ensures { OnOk result (code.new.items ≡ code.old.items ++ (named_code (around_of (program p.now) 0 (proc q.now)) of ++ slot_stored q.now.frame 6 to)) }
 {
-    emit_named(code, p, q, of)?;
+    let frame = u64::from(q.frame);
+    emit_named(code, p, entries, q, of)?;
     store_slot(code, frame, 6, to)
 }
 
-/// Appends the instructions of a step of a procedure whose code begins at an address; a check has this site.
+/// Appends the instructions of a step of a procedure whose code is this block; a check has this site.
 pub fn emit_step(
     code: &mut Vec<Inst>,
     p: &MidProgram,
+    entries: &[u64],
     q: &MidProcedure,
-    at: u64,
+    block: &Block,
     site: u64,
     step: &MidStep,
 ) -> Result<(), AllocError>
-    requires can { CanEmit (around_of (program p.now) at (proc q.now)) (length q.now.steps.items) (length p.now.procedures.items) step.now }
+    requires can { CanEmit (around_of (program p.now) block.now.at (proc q.now)) (length q.now.steps.items) (length p.now.procedures.items) step.now }
     requires frame { q.now.frame ≤ 2 ^ 24 }
-    requires low { at + 4 * (enter_size + size_of_steps q.now.steps.items) < 2 ^ 32 }
-    requires short { IsShort (program p.now) }
+    requires entries { IsTable entries.now (length p.now.procedures.items) (entry_of (program p.now)) }
+    requires places { IsTable block.now.places.items (length q.now.steps.items) (around_of (program p.now) block.now.at (proc q.now)).place }
     requires site { site < 2 ^ 31 }
-    ensures { OnOk result (code.new.items ≡ code.old.items ++ step_code (around_of (program p.now) at (proc q.now)) site step.now) }
+    ensures { OnOk result (code.new.items ≡ code.old.items ++ step_code (around_of (program p.now) block.now.at (proc q.now)) site step.now) }
 {
     let frame = u64::from(q.frame);
     match step {
         MidStep::Const { to, word } => emit_const(code, frame, *to, *word),
-        MidStep::Address { to, of } => emit_address(code, p, q, frame, *to, *of),
+        MidStep::Address { to, of } => emit_address(code, p, entries, q, *to, *of),
         MidStep::Move { to, from } => emit_move(code, frame, *to, *from),
         MidStep::Unary { to, op, operand } => emit_unary_step(code, frame, *to, *op, *operand),
         MidStep::Binary {
@@ -185,21 +189,15 @@ pub fn emit_step(
             address,
             value,
         } => emit_store(code, frame, *width, *address, *value),
-        MidStep::Jump { label } => emit_jump(code, place_of(&q.steps, at, *label)),
+        MidStep::Jump { label } => emit_jump(code, block.places[*label as usize]),
         MidStep::Branch { condition, label } => {
-            emit_branch(code, frame, *condition, place_of(&q.steps, at, *label))
+            emit_branch(code, frame, *condition, block.places[*label as usize])
         }
         MidStep::Call {
             to,
             procedure,
             arguments,
-        } => emit_call(
-            code,
-            frame,
-            *to,
-            entry_of(&p.procedures, *procedure),
-            arguments,
-        ),
+        } => emit_call(code, frame, *to, entries[*procedure as usize], arguments),
         MidStep::CallValue {
             to,
             target,
@@ -232,45 +230,52 @@ fn site_count(step: &MidStep) -> u64
     }
 }
 
-/// Appends the instructions of all steps of a procedure; their sites begin with this one.
-pub fn emit_steps(
+/// Appends the instructions of all steps of a procedure; their sites begin with this one. Gives the
+/// number behind their last site.
+fn emit_steps(
     code: &mut Vec<Inst>,
     p: &MidProgram,
+    entries: &[u64],
     q: &MidProcedure,
-    at: u64,
+    block: &Block,
     site: u64,
-) -> Result<(), AllocError>
-    requires can { AllCanEmit (around_of (program p.now) at (proc q.now)) (length q.now.steps.items) (length p.now.procedures.items) q.now.steps.items }
+) -> Result<u64, AllocError>
+    requires can { AllCanEmit (around_of (program p.now) block.now.at (proc q.now)) (length q.now.steps.items) (length p.now.procedures.items) q.now.steps.items }
     requires frame { q.now.frame ≤ 2 ^ 24 }
-    requires low { at + 4 * (enter_size + size_of_steps q.now.steps.items) < 2 ^ 32 }
-    requires short { IsShort (program p.now) }
+    requires entries { IsTable entries.now (length p.now.procedures.items) (entry_of (program p.now)) }
+    requires places { IsTable block.now.places.items (length q.now.steps.items) (around_of (program p.now) block.now.at (proc q.now)).place }
     requires sites { site + size_of_steps q.now.steps.items < 2 ^ 31 }
-    ensures { OnOk result (code.new.items ≡ code.old.items ++ steps_code (around_of (program p.now) at (proc q.now)) site q.now.steps.items) }
+    ensures code { OnOk result (code.new.items ≡ code.old.items ++ steps_code (around_of (program p.now) block.now.at (proc q.now)) site q.now.steps.items) }
+    ensures next { IfOk result (λ next. next ≡ site + length (steps_sites q.now.steps.items)) }
 {
     let mut next = site;
     for step in &q.steps {
-        emit_step(code, p, q, at, next, step)?;
+        emit_step(code, p, entries, q, block, next, step)?;
         next += site_count(step);
     }
-    Ok(())
+    Ok(next)
 }
 
-/// Appends the block of a procedure: its entry, and its steps.
+/// Appends the block of a procedure whose code begins at an address: its entry, and its steps; their
+/// sites begin with this one. Gives the number behind the last site.
 pub fn emit_proc(
+    alloc: Global,
     code: &mut Vec<Inst>,
     p: &MidProgram,
+    entries: &[u64],
     q: &MidProcedure,
     at: u64,
     site: u64,
-) -> Result<(), AllocError>
+) -> Result<u64, AllocError>
     requires can { AllCanEmit (around_of (program p.now) at (proc q.now)) (length q.now.steps.items) (length p.now.procedures.items) q.now.steps.items }
     requires frame { q.now.frame ≤ 2 ^ 24 }
-    requires low { at + 4 * (enter_size + size_of_steps q.now.steps.items) < 2 ^ 32 }
-    requires short { IsShort (program p.now) }
-    requires sites { site + 1 + size_of_steps q.now.steps.items < 2 ^ 31 }
-    ensures { OnOk result (code.new.items ≡ code.old.items ++ proc_code (around_of (program p.now) at (proc q.now)) site (proc q.now)) }
+    requires entries { IsTable entries.now (length p.now.procedures.items) (entry_of (program p.now)) }
+    requires low { at + 4 * size_of_proc (proc q.now) < 2 ^ 32 }
+    requires sites { site + size_of_proc (proc q.now) < 2 ^ 31 }
+    ensures code { OnOk result (code.new.items ≡ code.old.items ++ proc_code (around_of (program p.now) at (proc q.now)) site (proc q.now)) }
+    ensures next { IfOk result (λ next. next ≡ site + length (proc_sites (proc q.now))) }
 {
-    let frame = u64::from(q.frame);
-    emit_enter(code, frame, site)?;
-    emit_steps(code, p, q, at, site + 1)
+    let block = block_of(alloc, q, at)?;
+    emit_enter(code, u64::from(q.frame), site)?;
+    emit_steps(code, p, entries, q, &block, site + 1)
 }
