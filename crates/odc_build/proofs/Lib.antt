@@ -1,15 +1,6 @@
-pub mod Flat
-pub mod Steps
-pub mod Numbers
-pub mod Signs
-pub mod Print
-pub mod Texts
-pub mod Ties
-pub mod Declared
-pub mod Values
-pub mod Lines
-pub mod Begin
-pub mod Whole
-pub mod Emitted
-pub mod Sizes
-pub mod Chosen
+mod Weights
+mod Forms
+mod Rooms
+mod Widths
+mod Limits
+mod Whole

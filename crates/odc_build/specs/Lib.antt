@@ -1,4 +1,2 @@
-pub mod Code
-pub mod Layout
-pub mod Encoded
+pub mod Weight
 pub mod Kept

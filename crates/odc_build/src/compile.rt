@@ -1,72 +1,96 @@
-//! The step from a program to its image.
+//! From a typed program to its executable.
 
-ghost use Rattle.std.specs.Prelude.{◌≡◌, ℕ, ◌^◌, ◌≤◌, IfOk};
-ghost use Rattle.odc_typed.specs.View.{proc, program};
+ghost use Rattle.std.specs.Prelude.{◌≤◌, IfOk, length};
+ghost use Rattle.odc_typed.specs.View.{program};
 ghost use Rattle.odc_typed.specs.Well.{IsWell};
-ghost use Rattle.odc_typed.specs.Frame.{frame, FramesFit};
-ghost use Rattle.odc_build.specs.Code.{code_of as instructions_of};
-ghost use Rattle.odc_build.specs.Kept.{KeptBy, FollowedBy};
-ghost use Rattle.odc_build.specs.Layout.{image_of};
+ghost use Rattle.odc_build.specs.Kept.{IsWithin, IsBuilt, loaded};
 
-use crate::emit::{emit_number, emit_stmts, print_routine};
-use crate::encoded::encoded;
-use crate::frame::frame_of;
-use odc_typed::tree::{Procedure, Program};
-use rv_table::inst::Inst;
+use odc_context::context::pass_context;
+use odc_lower::lower::lower;
+use odc_text::check::Check;
+use odc_text::place::Place;
+use odc_typed::tree::Program;
+use rv_emit::image::image;
 use std::alloc::{AllocError, Global};
 
-/// Where the text begins.
+/// The address of the text, and of its first instruction.
 pub const TEXT_START: u64 = 0x10000;
 
-/// The stack lies below this address.
-const STACK_END: u64 = 0x8000_0000;
-
-/// The bytes of the text, and the address of the first instruction.
+/// What the machine loads. The text begins at `TEXT_START`, which is also the entry, and the store at
+/// 0x5000_0000; bytes of the store that aren't given are zero.
 #[derive(Drop)]
-pub struct Image {
+pub struct Executable {
     pub text: Vec<u8>,
-    pub entry: u64,
+    pub store: Vec<u8>,
+    pub store_size: u64,
+    /// The sites of the checks, by their numbers.
+    pub sites: Vec<(Check, Place)>,
+    /// The addresses of the instructions that call an allocator.
+    pub calls: Vec<u64>,
 }
 
-/// The instructions of a program whose `main` is this procedure.
-fn code_of(alloc: Global, main: &Procedure) -> Result<Vec<Inst>, AllocError>
-    requires { frame (proc main.now) ≤ 2 ^ 24 }
-    ensures { IfOk result (λ code. code.items ≡ instructions_of (proc main.now)) }
-{
-    let mut code = print_routine(alloc)?;
-    let low = STACK_END - frame_of(main);
-    emit_number(&mut code, 2, 2, low)?;
-    emit_number(&mut code, 1, 9, TEXT_START)?;
-    emit_number(&mut code, 2, 8, low + 128 + 16 * main.locals.len() as u64)?;
-    emit_stmts(&mut code, &main.body)?;
-    code.push(Inst::Addi {
-        rd: 10,
-        rs1: 0,
-        imm: 0,
-    })?;
-    code.push(Inst::Addi {
-        rd: 17,
-        rs1: 0,
-        imm: 93,
-    })?;
-    code.push(Inst::Ecall)?;
-    Ok(code)
-}
-
-/// The image of a program: its run on the machine keeps the source run, at 20 instructions at most
-/// for each unit of cost and 25 more. Addresses of the source are read by their places; procedures
-/// in whatever way, since no allocator is called.
-pub fn compile(alloc: Global, p: &Program) -> Result<Image, AllocError>
+/// The executable of a program: its run on the machine keeps the source run on every input of bytes,
+/// and follows it. Addresses of the source are read by their places, procedures by their first
+/// instructions.
+pub fn compile(alloc: Global, p: &Program) -> Result<Executable, AllocError>
     requires well { IsWell (program p.now) }
-    requires frames { FramesFit (program p.now).procedures }
-    ensures kept { IfOk result (λ i. (entry_of : ℕ → ℕ) → KeptBy entry_of (program p.now) (image_of i.text.items i.entry)) }
-    ensures followed { IfOk result (λ i. (entry_of : ℕ → ℕ) → FollowedBy entry_of (program p.now) (image_of i.text.items i.entry)) }
+    requires within { IsWithin (program p.now) }
+    ensures built { IfOk result (λ x. IsBuilt (program p.now) (loaded x)) }
+    ensures store { IfOk result (λ x. length x.store.items ≤ x.store_size) }
 {
-    let main = &p.procedures[p.main as usize];
-    let code = code_of(alloc, main)?;
-    let text = encoded(alloc, &code)?;
-    Ok(Image {
-        text,
-        entry: TEXT_START + 4 * 23,
+    let core = pass_context(alloc, p)?;
+    let mid = lower(alloc, &core)?;
+    let made = image(alloc, &mid)?;
+    Ok(Executable {
+        text: made.text,
+        store_size: mid.store_size,
+        store: mid.store,
+        sites: made.sites,
+        calls: made.calls,
     })
+}
+
+#[cfg(test)]
+mod tests {
+    use super::*;
+    use odc_text::place::FileId;
+    use odc_typed::tree::Procedure;
+    use std::test::Fail;
+
+    // The start has ten instructions, the entry of a procedure seventeen, its stack check among them;
+    // then the answer 0 takes sixteen, and the return thirteen.
+    #[test]
+    fn an_empty_main_is_fifty_six_instructions(rt: HostRuntime) -> Result<(), Fail> {
+        let alloc = rt.alloc();
+        let at = Place {
+            file: FileId { number: 0 },
+            line: 3,
+            column: 9,
+        };
+        let main = Procedure {
+            name: String::from_str(alloc, "main.main")?,
+            at,
+            parameters: Vec::new(alloc),
+            results: Vec::new(alloc),
+            locals: Vec::new(alloc),
+            body: Vec::new(alloc),
+        };
+        let p = Program {
+            procedures: vec![in alloc; main]?,
+            main: 0,
+            paths: Vec::new(alloc),
+        };
+        let x = compile(alloc, &p)?;
+        assert_eq!(rt; x.text.len(), 4 * 56);
+        assert!(rt; x.text.starts_with(b"\x13\x01\x10\x00\x13\x11\xf1\x01"));
+        assert!(rt; x.store.is_empty());
+        assert!(rt; x.calls.is_empty());
+        let [(check, place)] = x.sites.as_slice() else {
+            return Err(Fail::from("not one site"));
+        };
+        assert!(rt; matches!(*check, Check::Stack));
+        assert_eq!(rt; place.line, 3);
+        assert_eq!(rt; place.column, 9);
+        Ok(())
+    }
 }

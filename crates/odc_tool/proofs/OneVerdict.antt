@@ -4,9 +4,9 @@ use Rattle.std.specs.List.{Contains, list_any}
 use Rattle.std.specs.Prelude.{nat_eq}
 use Rattle.odc_text.specs.declared.code.Fault.{Fault}
 use Rattle.odc_io.specs.Trees.{Tree as Files}
-use Rattle.odc_tool.specs.Grammar.{Tree, text_spelling}
+use Rattle.odc_small.specs.Grammar.{Tree, text_spelling}
 use Rattle.odc_tool.specs.Verdict.{Outcome, refused, taken, main_name, HasSource, IsTaken, Verdict}
-use Rattle.odc_tool.proofs.GrammarLemmas.{one_tree}
+use Rattle.odc_small.proofs.TextLemmas.{one_tree}
 use Rattle.odc_tool.proofs.OrderLemmas.{neither_after}
 use Rattle.odc_tool.proofs.VerdictLemmas.{main_is_source}
 use Rattle.std.proofs.lemmas.Map.Views.{list_any-from_Contains}

@@ -8,9 +8,10 @@ use Rattle.std.proofs.lemmas.Slice.Eq.{bytes_eq-Decides}
 use Rattle.std.proofs.lemmas.List.{take_all}
 use Rattle.odc_io.specs.Trees.{joined, IsListing, HasFilesUnder, ReadsFront}
 use Rattle.odc_io.specs.Trees.{Tree as Files}
-use Rattle.odc_tool.specs.Grammar.{Tree, text_spelling}
+use Rattle.odc_small.specs.Grammar.{Tree, text_spelling}
+use Rattle.odc_small.specs.Text.{Spells}
 use Rattle.odc_tool.specs.Verdict.{Outcome, refused, taken, main_name, IsSourceName, HasSource, IsTaken, IsFirstSource, NotAfter, no_source, Verdict}
-use Rattle.odc_tool.specs.Gather.{IsOther, IsLeast, IsMain, Spells, Shows, lesser}
+use Rattle.odc_tool.specs.Gather.{IsOther, IsLeast, IsMain, Shows, lesser}
 use Rattle.odc_tool.proofs.OrderLemmas.{not_after_self, not_after_through, lesser_cases}
 
 main_by : (n : List ℕ) (t : Bool) → bytes_eq n main_name ≡ t → (n ≡ main_name) ⊎ (n ≢ main_name)
@@ -99,14 +100,14 @@ module _ (files : Files) (dir : List ℕ) (names : List (List ℕ)) (listing : I
       (source_of main_name has main_is_source, λ m h. subst (NotAfter main_name) (sym (only_main least m h)) (not_after_self main_name))
 
   text_taken : (v : Vec ℕ Global) (tree : Tree) → IsMain files dir names (Some v) → IsLeast names None → Spells v.items tree → IsTaken files dir tree
-  text_taken v tree main least (is, same, short) =
+  text_taken v tree main least spells =
       let f = (main_front v main).1 in
-      let all : take 16385 f.bytes ≡ f.bytes = whole_by f.bytes (subst (λ z. length z ≤ 16384) f.front short) in
+      let all : take 16385 f.bytes ≡ f.bytes = whole_by f.bytes (subst (λ z. length z ≤ 16384) f.front spells.short) in
       record {
         only = only_main least;
-        whole = f.whole ∙ ap (λ z. Some z) (sym all ∙ sym f.front ∙ same);
-        is = is;
-        short = subst (λ z. length z ≤ 16384) same short;
+        whole = f.whole ∙ ap (λ z. Some z) (sym all ∙ sym f.front ∙ spells.whole);
+        is = spells.is;
+        short = subst (λ z. length z ≤ 16384) spells.whole spells.short;
       }
 
   none_taken : (v : Vec ℕ Global) → IsMain files dir names (Some v) → ((tree : Tree) → ¬ Spells v.items tree) → (tree : Tree) → ¬ IsTaken files dir tree
@@ -115,7 +116,7 @@ module _ (files : Files) (dir : List ℕ) (names : List (List ℕ)) (listing : I
       let here : f.bytes ≡ text_spelling tree = (let e : Some f.bytes ≡ Some (text_spelling tree) = sym f.whole ∙ t.whole in cc) in
       let same : v.items ≡ text_spelling tree
       = f.front ∙ ap (take 16385) here ∙ take_all 16385 (text_spelling tree) (omega (arith, t.short)) in
-      off tree (t.is, same, subst (λ z. length z ≤ 16384) (sym same) t.short)
+      off tree (record { is = t.is; whole = same; short = subst (λ z. length z ≤ 16384) (sym same) t.short })
 
   pub verdict_from : (main : Option (Vec ℕ Global)) (other : Option (List ℕ)) (outcome : Outcome)
       → IsMain files dir names main → IsLeast names other → Shows main other dir outcome → Verdict files dir outcome

@@ -7,7 +7,11 @@ use Rattle.std.specs.declared.vec.Vec.{Vec}
 use Rattle.std.specs.declared.alloc.Global.{Global}
 use Rattle.odc_io.specs.Trees.{joined, ReadsFront}
 use Rattle.odc_io.specs.Trees.{Tree as Files}
-use Rattle.odc_tool.specs.Grammar.{Tree, IsText, text_spelling}
+use Rattle.odc_typed.specs.Tree.{Whole}
+use Rattle.odc_small.specs.Grammar.{Tree, text_spelling}
+use Rattle.odc_small.specs.Names.{IsText}
+use Rattle.odc_small.specs.Text.{Spells}
+use Rattle.odc_small.specs.Typing.{typed}
 use Rattle.odc_tool.specs.Verdict.{Outcome, refused, taken, main_name, IsSourceName, NotAfter, no_source, outside}
 use Rattle.odc_tool.specs.declared.folder.GatherError.{GatherError}
 use Rattle.odc_tool.specs.declared.folder.GatherError.TheVariants.{FolderFault, Refused, Memory}
@@ -37,9 +41,12 @@ pub record IsWithin (tree : Tree) : Type 0 where
   pub is : IsText tree
   pub short : length (text_spelling tree) ≤ 16384
 
--- the tree that the bytes spell within the limit
-abbrev pub Spells : List ℕ → Tree → Type 0
-Spells bytes tree = IsText tree × (bytes ≡ text_spelling tree) × (length bytes ≤ 16384)
+-- the program is that of a tree of which this holds, within the limit
+pub record IsTypedOf (Holds : Tree → Type 0) (p : Whole) : Type 0 where
+  pub tree : Tree
+  pub within : IsWithin tree
+  pub same : p ≡ typed tree
+  pub holds : Holds tree
 
 -- what follows from the bytes of `main.odin` and the first other name
 abbrev pub Shows : Option (Vec ℕ Global) → Option (List ℕ) → List ℕ → Outcome → Type 0

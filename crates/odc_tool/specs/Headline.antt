@@ -13,15 +13,15 @@ use Rattle.odc_io.specs.Trees.{Tree as Files}
 use Rattle.rv_table.specs.Run.{Image, machine}
 use Rattle.rv_machine.specs.Outside.{Told, out_bytes, err_bytes}
 use Rattle.odc_typed.specs.Tree.{Whole}
-use Rattle.odc_build.specs.Kept.{KeptBy, FollowedBy}
+use Rattle.odc_small.specs.Grammar.{Tree}
+use Rattle.odc_small.specs.Typing.{typed}
+use Rattle.odc_build.specs.Kept.{IsBuilt}
 use Rattle.odc_tool.specs.declared.status.Status.{Status}
 use Rattle.odc_tool.specs.declared.status.Status.TheVariants.{Done, Exited, Refused, Usage, Stopped, StepsOut, Trapped, Strayed, BadImage, FolderFault, ReadFault, WriteFault, Memory, TurnsOut}
 use Rattle.odc_tool.specs.Status.{line_of}
 use Rattle.odc_tool.specs.Telling.{IsFailure}
-use Rattle.odc_tool.specs.Grammar.{Tree}
-use Rattle.odc_tool.specs.Typing.{typed}
 use Rattle.odc_tool.specs.Verdict.{Verdict, refused, taken, main_name}
-use Rattle.odc_tool.specs.Words.{word_at, words_of, run, BadWord}
+use Rattle.odc_tool.specs.Words.{word_at, IsRun, BadWord}
 
 -- ---- without a failure
 
@@ -48,32 +48,27 @@ refusal fault path = told_alone (Refused fault) path []
 abbrev pub folder_fault : Given
 folder_fault = told_alone FolderFault [] []
 
--- as many instructions as `run` carries out
-abbrev pub default_steps : ℕ
-default_steps = 1000000000
+-- the status of a machine run that stands so after so many steps
+abbrev pub IsStatusOf : ℕ → End → Status → Type 0
+IsStatusOf n (exited code) status = status ≡ Exited code
+IsStatusOf n (checked check at) status = status ≡ Stopped check at
+IsStatusOf n (trapped pc) status = status ≡ Trapped pc
+IsStatusOf n going status = status ≡ StepsOut n
+IsStatusOf n (strayed at) status = ⊥
 
--- the status of a machine run that stands so after the default number of steps
-abbrev pub IsStatusOf : End → Status → Type 0
-IsStatusOf (exited code) status = status ≡ Exited code
-IsStatusOf (checked check at) status = status ≡ Stopped check at
-IsStatusOf (trapped pc) status = status ≡ Trapped pc
-IsStatusOf going status = status ≡ StepsOut default_steps
-IsStatusOf (strayed at) status = ⊥
+-- what the run of an image gives on an input after so many steps
+pub record RunOf (image : Image) (n : ℕ) (rest : List ℕ) (g : Given) : Type 0 where
+  pub status : IsStatusOf n (machine image rest n).end g.status
+  pub out : g.out ≡ out_bytes (machine image rest n).log
+  pub err : g.err ≡ err_bytes (machine image rest n).log ++ line_of g.status main_name []
+  pub taken : g.taken ≡ (machine image rest n).taken
 
--- what the run of an image gives on an input
-pub record RunOf (image : Image) (rest : List ℕ) (g : Given) : Type 0 where
-  pub status : IsStatusOf (machine image rest default_steps).end g.status
-  pub out : g.out ≡ out_bytes (machine image rest default_steps).log
-  pub err : g.err ≡ err_bytes (machine image rest default_steps).log ++ line_of g.status main_name []
-  pub taken : g.taken ≡ (machine image rest default_steps).taken
-
--- what a program gives on an input: an image follows its source run, at a bounded cost, and all is
--- that of the image's run on the machine. Procedures are read in whatever way.
-pub record RunsOf (p : Whole) (rest : List ℕ) (g : Given) : Type 0 where
+-- what a program gives on an input: an image keeps its source run, at a bounded cost, and follows it,
+-- on every input of bytes, and all is that of the image's run on the machine
+pub record RunsOf (p : Whole) (n : ℕ) (rest : List ℕ) (g : Given) : Type 0 where
   pub image : Image
-  pub follows : (entry_of : ℕ → ℕ) → FollowedBy entry_of p image
-  pub kept : (entry_of : ℕ → ℕ) → KeptBy entry_of p image
-  pub gives : RunOf image rest g
+  pub built : IsBuilt p image
+  pub gives : RunOf image n rest g
 
 -- ---- with failures
 
@@ -112,24 +107,20 @@ abbrev pub OnInput : Option (List ℕ) → (List ℕ → Type 0) → Type 0
 OnInput told P = (rest : List ℕ) × IfSome told (λ r. r ≡ rest) × P rest
 
 -- what a program answers on an input
-abbrev pub AnswersOn : Whole → Status → Told → Told → List ℕ → Type 0
-AnswersOn p answered old new rest = (g : Given) × RunsOf p rest g × Answers g answered old new
+abbrev pub AnswersOn : Whole → ℕ → Status → Told → Told → List ℕ → Type 0
+AnswersOn p n answered old new rest = (g : Given) × RunsOf p n rest g × Answers g answered old new
 
 -- ---- by the folder
 
--- the words are `run DIR`
-abbrev pub IsRun : List (List ℕ) → List ℕ → Type 0
-IsRun words dir = words ≡ words_of (run dir)
-
--- What is answered for a folder that tells its files; `rose` says that the folder's count of faults
--- rose in the call.
-pub record AnswersFolder (files : Files) (dir : List ℕ) (rose : Type 0) (answered : Status) (old new : Told) : Type 0 where
+-- What is answered for a folder that tells its files, where so many steps are carried out at most;
+-- `rose` says that the folder's count of faults rose in the call.
+pub record AnswersFolder (files : Files) (dir : List ℕ) (n : ℕ) (rose : Type 0) (answered : Status) (old new : Told) : Type 0 where
   -- a package that breaks a rule is refused by it
   pub refused_where : (fault : Fault) (path : List ℕ) → Verdict files dir (refused fault path) →
       (rose × Answers folder_fault answered old new) ⊎ Answers (refusal fault path) answered old new
   -- any other package runs
   pub runs_where : (tree : Tree) → Verdict files dir (taken tree) →
-      (rose × Answers folder_fault answered old new) ⊎ (GaveNothing answered old new ⊎ OnInput old.input (AnswersOn (typed tree) answered old new))
+      (rose × Answers folder_fault answered old new) ⊎ (GaveNothing answered old new ⊎ OnInput old.input (AnswersOn (typed tree) n answered old new))
 
 -- ---- the other way: what a status says
 
@@ -137,27 +128,27 @@ pub record AnswersFolder (files : Files) (dir : List ℕ) (rose : Type 0) (answe
 abbrev pub IsPackage : List ℕ → Option Files → Type 0
 IsPackage dir files = IfSome files (λ f. (tree : Tree) × Verdict f dir (taken tree))
 
--- the cause of a status of `run DIR`; a folder that isn't told shows none
-abbrev pub PackageCause : List ℕ → Option Files → (folder_rose input_rose output_rose : Type 0) → Status → Type 0
-PackageCause dir files fr ir or (Refused fault) = IfSome files (λ f. (path : List ℕ) × Verdict f dir (refused fault path))
-PackageCause dir files fr ir or (Exited code) = IsPackage dir files
-PackageCause dir files fr ir or (Stopped check at) = IsPackage dir files
-PackageCause dir files fr ir or (StepsOut steps) = IsPackage dir files × (steps ≡ default_steps)
-PackageCause dir files fr ir or (Trapped pc) = IsPackage dir files
-PackageCause dir files fr ir or FolderFault = fr
-PackageCause dir files fr ir or ReadFault = ir
-PackageCause dir files fr ir or WriteFault = or
-PackageCause dir files fr ir or Memory = Unit {0}
-PackageCause dir files fr ir or (Usage i) = ⊥
-PackageCause dir files fr ir or Done = ⊥
-PackageCause dir files fr ir or (Strayed at) = ⊥
-PackageCause dir files fr ir or (BadImage rule offset) = ⊥
-PackageCause dir files fr ir or (TurnsOut turns) = ⊥
+-- the cause of a status of a run for so many steps at most; a folder that isn't told shows none
+abbrev pub PackageCause : List ℕ → ℕ → Option Files → (folder_rose input_rose output_rose : Type 0) → Status → Type 0
+PackageCause dir n files fr ir or (Refused fault) = IfSome files (λ f. (path : List ℕ) × Verdict f dir (refused fault path))
+PackageCause dir n files fr ir or (Exited code) = IsPackage dir files
+PackageCause dir n files fr ir or (Stopped check at) = IsPackage dir files
+PackageCause dir n files fr ir or (StepsOut steps) = IsPackage dir files × (steps ≡ n)
+PackageCause dir n files fr ir or (Trapped pc) = IsPackage dir files
+PackageCause dir n files fr ir or FolderFault = fr
+PackageCause dir n files fr ir or ReadFault = ir
+PackageCause dir n files fr ir or WriteFault = or
+PackageCause dir n files fr ir or Memory = Unit {0}
+PackageCause dir n files fr ir or (Usage i) = ⊥
+PackageCause dir n files fr ir or Done = ⊥
+PackageCause dir n files fr ir or (Strayed at) = ⊥
+PackageCause dir n files fr ir or (BadImage rule offset) = ⊥
+PackageCause dir n files fr ir or (TurnsOut turns) = ⊥
 
--- the cause of a status: bad words, or that of `run DIR` where the words are these; memory is free,
+-- the cause of a status: bad words, or that of a run where the words say one; memory is free,
 -- and a failed output may come in the place of any
 abbrev pub HasCause : List (List ℕ) → Option Files → (folder_rose input_rose output_rose : Type 0) → Status → Type 0
 HasCause words files fr ir or (Usage i) = BadWord words i
 HasCause words files fr ir or WriteFault = or
 HasCause words files fr ir or Memory = Unit {0}
-HasCause words files fr ir or status = (dir : List ℕ) × IsRun words dir × PackageCause dir files fr ir or status
+HasCause words files fr ir or status = (dir : List ℕ) × (n : ℕ) × IsRun words dir n × PackageCause dir n files fr ir or status

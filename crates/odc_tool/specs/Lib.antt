@@ -1,14 +1,8 @@
 pub mod Errors
-pub mod Forms
 pub mod Gather
-pub mod Grammar
 pub mod Headline
 pub mod Loading
-pub mod Reading
-pub mod Small
 pub mod Status
 pub mod Telling
-pub mod Typing
 pub mod Verdict
-pub mod View
 pub mod Words

@@ -8,7 +8,8 @@ use Rattle.odc_text.specs.declared.code.Fault.{Fault}
 use Rattle.odc_text.specs.declared.code.Code.TheVariants.{S01, N00}
 use Rattle.odc_io.specs.Trees.{joined, IsFileIn}
 use Rattle.odc_io.specs.Trees.{Tree as Files}
-use Rattle.odc_tool.specs.Grammar.{Tree, IsText, text_spelling}
+use Rattle.odc_small.specs.Grammar.{Tree, text_spelling}
+use Rattle.odc_small.specs.Names.{IsText}
 
 -- the outcome: a fault with the path that is printed before its place, or a text
 pub data Outcome : Type 0 where

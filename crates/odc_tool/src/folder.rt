@@ -1,4 +1,4 @@
-//! From a folder to the text of its one source file.
+//! From a folder to the program of its one source file.
 
 ghost use Rattle.std.specs.Prelude.{◌≡◌, ◌≢◌, ◌≤◌, ◌↔◌, ◌++◌, List, ℕ, Some, None, IfOk, IfErr, IfSome, IsErrOf, IsTrue, MatchOption, option_map, length, string_bytes};
 ghost use Rattle.std.specs.Option.{option_copied};
@@ -7,15 +7,15 @@ ghost use Rattle.std.specs.Str.{bytes_eq};
 ghost use Rattle.odc_io.specs.Counts.{Rose};
 ghost use Rattle.odc_io.specs.Trees.{joined, texts};
 ghost use Rattle.odc_tool.specs.Verdict.{Verdict, taken, refused, main_name, IsSourceName, no_source, outside};
-ghost use Rattle.odc_tool.specs.Gather.{IsWithin, IsOther, IsLeast, IsMain, Spells, Shows, IfRefused, lesser};
-ghost use Rattle.odc_tool.specs.Grammar.{Tree};
-ghost use Rattle.odc_tool.specs.View.{text};
+ghost use Rattle.odc_typed.specs.View.{program};
+ghost use Rattle.odc_tool.specs.Gather.{IsOther, IsLeast, IsMain, IsTypedOf, Shows, IfRefused, lesser};
 
-use crate::grammar::{Text, read_text};
 use odc_io::{Folder, FolderError};
+use odc_small::text::read_program;
 use odc_text::code::{Code, Fault};
 use odc_text::path::PathText;
 use odc_text::place::{FileId, Place};
+use odc_typed::tree::Program;
 use std::alloc::{AllocError, Global};
 
 const MAIN: &str = "main.odin";
@@ -133,16 +133,6 @@ fn read_main<F: Folder>(
     Ok(folder.read(alloc, path.as_str(), LIMIT)?)
 }
 
-// The text that the bytes spell within the limit.
-fn text_of(alloc: Global, bytes: &Vec<u8>) -> Result<Option<Text>, AllocError>
-    ensures { IfOk result (λ o. MatchOption o ((t : Tree) → ¬ Spells bytes.now.items t) (λ t. Spells bytes.now.items (text t))) }
-{
-    if bytes.len() > LIMIT {
-        return Ok(None);
-    }
-    read_text(alloc, bytes)
-}
-
 // A refusal at the folder itself.
 fn refused_folder(alloc: Global, dir: &str) -> Result<GatherError, AllocError>
     ensures { IfOk result (λ e. e ≡ GatherError.Refused no_source dir.now) }
@@ -187,9 +177,8 @@ fn decide(
     dir: &str,
     main: Option<Vec<u8>>,
     other: Option<&str>,
-) -> Result<Text, GatherError>
-    ensures within { IfOk result (λ t. IsWithin (text t)) }
-    ensures ok { IfOk result (λ t. Shows main (option_copied other.entry) dir.now (taken (text t))) }
+) -> Result<Program, GatherError>
+    ensures ok { IfOk result (λ p. IsTypedOf (λ t. Shows main (option_copied other.entry) dir.now (taken t)) (program p)) }
     ensures err { IfErr result (λ e. IfRefused e (Shows main (option_copied other.entry) dir.now)) }
     ensures none { IsErrOf result GatherError.FolderFault → ⊥ }
 {
@@ -197,22 +186,21 @@ fn decide(
         (None, None) => Err(refused_folder(alloc, dir)?),
         (None, Some(name)) => Err(refused_file(alloc, name)?),
         (Some(_), Some(name)) => Err(refused_file(alloc, lesser_of(name, MAIN))?),
-        (Some(bytes), None) => match text_of(alloc, &bytes)? {
-            Some(text) => Ok(text),
+        (Some(bytes), None) => match read_program(alloc, &bytes)? {
+            Some(program) => Ok(program),
             None => Err(refused_file(alloc, MAIN)?),
         },
     }
 }
 
-/// The text that `main.odin` of the folder holds, where it is the only source file and its text is
-/// in the grammar, and else the fault of the folder.
-pub fn gather_small<F: Folder>(
+/// The program of the text that `main.odin` of the folder holds, where it is the only source file and
+/// its text is in the grammar, and else the fault of the folder.
+pub fn gather_program<F: Folder>(
     alloc: Global,
     folder: &mut F,
     dir: &str,
-) -> Result<Text, GatherError>
-    ensures within { IfOk result (λ t. IsWithin (text t)) }
-    ensures taken { IfOk result (λ t. IfSome (F.tree folder.old) (λ files. Verdict files dir.now (taken (text t)))) }
+) -> Result<Program, GatherError>
+    ensures taken { IfOk result (λ p. IsTypedOf (λ t. IfSome (F.tree folder.old) (λ files. Verdict files dir.now (taken t))) (program p)) }
     ensures refused { IfErr result (λ e. IfSome (F.tree folder.old) (λ files. IfRefused e (Verdict files dir.now))) }
     ensures fault { IsErrOf result GatherError.FolderFault → Rose (F.faults folder.old) (F.faults folder.new) }
     ensures same { F.tree folder.new ≡ F.tree folder.old }
@@ -244,12 +232,12 @@ mod tests {
         rt: &HostRuntime,
         files: Vec<MemFile>,
         fail: u64,
-    ) -> Result<Result<Text, GatherError>, Fail> {
+    ) -> Result<Result<Program, GatherError>, Fail> {
         let mut folder = MemFolder::new(files, vec![in rt.alloc(); fail]?);
-        Ok(gather_small(rt.alloc(), &mut folder, "d"))
+        Ok(gather_program(rt.alloc(), &mut folder, "d"))
     }
 
-    fn is_fault_at(found: &Result<Text, GatherError>, at_folder: bool, name: &str) -> bool {
+    fn is_fault_at(found: &Result<Program, GatherError>, at_folder: bool, name: &str) -> bool {
         match found {
             Err(GatherError::Refused { fault, path }) => {
                 let code = matches!(fault.code, Code::S01) == at_folder;

@@ -1,38 +1,34 @@
 //! The command `run`: from words and a folder to what the machine prints.
 
-ghost use Rattle.std.specs.Prelude.{◌≡◌, ◌⊎◌, ℕ, ◌≤◌, List, [], IfOk, IfSome, All};
+ghost use Rattle.std.specs.Prelude.{◌≡◌, ◌⊎◌, ℕ, ◌≤◌, List, [], IfOk, IfSome, All, length};
 ghost use Rattle.odc_io.specs.Counts.{Rose};
 ghost use Rattle.odc_io.specs.Streams.{GrewByFront};
 ghost use Rattle.rv_machine.specs.Image.{range_of, BytesFit};
 ghost use Rattle.rv_machine.specs.Image.{image_of as loaded_image};
-ghost use Rattle.odc_build.specs.Layout.{text_range, zeros_at, image_of};
-ghost use Rattle.odc_tool.specs.Gather.{IsWithin};
+ghost use Rattle.odc_typed.specs.View.{program};
+ghost use Rattle.odc_typed.specs.Well.{IsWell};
+ghost use Rattle.rv_emit.specs.Layout.{text_range, memory_at};
+ghost use Rattle.odc_build.specs.Kept.{IsWithin, loaded};
 ghost use Rattle.rv_machine.specs.Machine.{loaded_from};
 ghost use Rattle.rv_machine.specs.Outside.{told};
 ghost use Rattle.rv_table.specs.Run.{Image as MachineImage};
 ghost use Rattle.odc_io.specs.Trees.{texts};
-ghost use Rattle.odc_tool.specs.Headline.{Answers, AnswersFolder, HasCause, PackageCause, IsRun, bad_words};
-ghost use Rattle.odc_tool.specs.Words.{BadWord, command_of, dir_of};
-ghost use Rattle.odc_tool.specs.Loading.{LoadedFor, AnswersImage, AnswersText, RunCause};
+ghost use Rattle.odc_tool.specs.Headline.{Answers, AnswersFolder, HasCause, PackageCause, bad_words};
+ghost use Rattle.odc_tool.specs.Words.{BadWord, IsRun, dir_of, steps_of};
+ghost use Rattle.odc_tool.specs.Loading.{LoadedFor, AnswersImage, AnswersProgram, RunCause};
 ghost use Rattle.odc_tool.specs.Status.{line_of};
 ghost use Rattle.odc_tool.specs.Telling.{status_of, Tells, TellsBy, TellsError, ErrorTellsBy};
-ghost use Rattle.odc_tool.specs.Typing.{typed};
-ghost use Rattle.odc_tool.specs.View.{text};
 
-use crate::folder::{GatherError, gather_small};
-use crate::grammar::Text;
+use crate::folder::{GatherError, gather_program};
 use crate::status::{Status, status_line};
-use crate::typing::program_of;
 use crate::words::{Command, read_command, word_or_empty};
-use odc_build::compile::{Image, TEXT_START, compile};
+use odc_build::compile::{Executable, TEXT_START, compile};
 use odc_io::{Folder, Sink, Source, write_all};
+use odc_typed::tree::Program;
 use rv_machine::image::{ImageView, Range};
 use rv_machine::machine::Machine;
 use rv_machine::stop::Stop;
 use std::alloc::{AllocError, Global};
-
-/// The number of instructions after which `run` stops a program.
-const DEFAULT_STEPS: u64 = 1_000_000_000;
 
 /// The path of a program's only file.
 const MAIN: &str = "main.odin";
@@ -96,9 +92,9 @@ fn tell<E: Sink>(alloc: Global, status: Status, path: &str, word: &str, err: &mu
     }
 }
 
-/// A range for reading and writing that begins as zeros.
-fn zeros(alloc: Global, start: u64, size: u64) -> Range
-    ensures { range_of result ≡ zeros_at start size }
+/// A range for reading and writing that begins with these bytes, and zeros behind them.
+fn memory_from(start: u64, size: u64, bytes: Vec<u8>) -> Range
+    ensures { range_of result ≡ memory_at start size bytes.items }
 {
     Range {
         start,
@@ -106,7 +102,7 @@ fn zeros(alloc: Global, start: u64, size: u64) -> Range
         readable: true,
         writable: true,
         executable: false,
-        bytes: Vec::new(alloc),
+        bytes,
     }
 }
 
@@ -125,86 +121,88 @@ fn text_of(text: Vec<u8>) -> Range
     }
 }
 
-/// What the machine loads of an image: its text, and the memory of a run.
-fn view_of(alloc: Global, image: Image) -> Result<ImageView, AllocError>
-    ensures image { IfOk result (λ v. loaded_image v ≡ image_of image.text.items image.entry) }
+/// What the machine loads of an executable: its text, its store, and the memory of a run.
+fn view_of(alloc: Global, executable: Executable) -> Result<ImageView, AllocError>
+    requires { length executable.store.items ≤ executable.store_size }
+    ensures image { IfOk result (λ v. loaded_image v ≡ loaded executable) }
     ensures fits { IfOk result (λ v. All BytesFit v.ranges.items) }
 {
-    let Image { text, entry } = image;
+    let Executable {
+        text,
+        store,
+        store_size,
+        sites,
+        calls,
+    } = executable;
     let ranges = vec![in alloc;
         text_of(text),
-        zeros(alloc, 0x5000_0000, 0),
-        zeros(alloc, 0x6000_0000, 16 * 0x10_0000),
-        zeros(alloc, 0x6800_0000, 0x10_0000),
-        zeros(alloc, 0x7800_0000, 128 * 0x10_0000),
+        memory_from(0x5000_0000, store_size, store),
+        memory_from(0x6000_0000, 16 * 0x10_0000, Vec::new(alloc)),
+        memory_from(0x6800_0000, 0x10_0000, Vec::new(alloc)),
+        memory_from(0x7800_0000, 128 * 0x10_0000, Vec::new(alloc)),
     ]?;
     Ok(ImageView {
         ranges,
-        entry,
-        sites: Vec::new(alloc),
-        calls: Vec::new(alloc),
+        entry: TEXT_START,
+        sites,
+        calls,
     })
 }
 
-/// A machine on which the program of a text is loaded.
-fn load_text(alloc: Global, t: &Text) -> Result<Machine, AllocError>
-    requires { IsWithin (text t.now) }
-    ensures { IfOk result (LoadedFor (typed (text t.now))) }
+/// A machine on which a program is loaded.
+fn load_program(alloc: Global, p: &Program) -> Result<Machine, AllocError>
+    requires well { IsWell (program p.now) }
+    requires within { IsWithin (program p.now) }
+    ensures { IfOk result (LoadedFor (program p.now)) }
 {
-    let program = program_of(alloc, t)?;
-    let image = compile(alloc, &program)?;
-    let view = view_of(alloc, image)?;
+    let executable = compile(alloc, p)?;
+    let view = view_of(alloc, executable)?;
     Machine::load(alloc, &view, false)
 }
 
-/// Runs a loaded machine for the default number of steps, and tells its status.
+/// Runs a loaded machine for so many steps at most, and tells its status.
 fn run_machine<S: Source, O: Sink, E: Sink>(
     alloc: Global,
     mut machine: Machine,
+    steps: u64,
     input: &mut S,
     out: &mut O,
     err: &mut E,
 ) -> Status
-    ensures run { (image : MachineImage) → machine ≡ loaded_from image → AnswersImage image result (told (S.rest input.old) (O.written out.old) (E.written err.old)) (told (S.rest input.new) (O.written out.new) (E.written err.new)) }
-    ensures cause { RunCause (Rose (S.faults input.old) (S.faults input.new)) (Rose (O.faults out.old) (O.faults out.new) ⊎ Rose (E.faults err.old) (E.faults err.new)) result }
+    ensures run { (image : MachineImage) → machine ≡ loaded_from image → AnswersImage image steps result (told (S.rest input.old) (O.written out.old) (E.written err.old)) (told (S.rest input.new) (O.written out.new) (E.written err.new)) }
+    ensures cause { RunCause steps (Rose (S.faults input.old) (S.faults input.new)) (Rose (O.faults out.old) (O.faults out.new) ⊎ Rose (E.faults err.old) (E.faults err.new)) result }
 {
-    match machine.run(DEFAULT_STEPS, input, out, err) {
+    match machine.run(steps, input, out, err) {
         Stop::Exited { code } => tell(alloc, Status::Exited { code }, MAIN, "", err),
         Stop::Checked { check, at } => tell(alloc, Status::Stopped { check, at }, MAIN, "", err),
         Stop::Trapped { pc } => tell(alloc, Status::Trapped { pc }, MAIN, "", err),
-        Stop::StepsOut => tell(
-            alloc,
-            Status::StepsOut {
-                steps: DEFAULT_STEPS,
-            },
-            MAIN,
-            "",
-            err,
-        ),
+        Stop::StepsOut => tell(alloc, Status::StepsOut { steps }, MAIN, "", err),
         Stop::ReadFault => fail(Failure::Read, err),
         Stop::WriteFault => fail(Failure::Write, err),
     }
 }
 
-/// Compiles a text, and runs it.
-fn run_text<S: Source, O: Sink, E: Sink>(
+/// Compiles a program, and runs it for so many steps at most.
+fn run_program<S: Source, O: Sink, E: Sink>(
     alloc: Global,
-    t: &Text,
+    p: &Program,
+    steps: u64,
     input: &mut S,
     out: &mut O,
     err: &mut E,
 ) -> Status
-    requires { IsWithin (text t.now) }
-    ensures run { AnswersText (text t.now) result (told (S.rest input.old) (O.written out.old) (E.written err.old)) (told (S.rest input.new) (O.written out.new) (E.written err.new)) }
-    ensures cause { RunCause (Rose (S.faults input.old) (S.faults input.new)) (Rose (O.faults out.old) (O.faults out.new) ⊎ Rose (E.faults err.old) (E.faults err.new)) result }
+    requires well { IsWell (program p.now) }
+    requires within { IsWithin (program p.now) }
+    ensures run { AnswersProgram (program p.now) steps result (told (S.rest input.old) (O.written out.old) (E.written err.old)) (told (S.rest input.new) (O.written out.new) (E.written err.new)) }
+    ensures cause { RunCause steps (Rose (S.faults input.old) (S.faults input.new)) (Rose (O.faults out.old) (O.faults out.new) ⊎ Rose (E.faults err.old) (E.faults err.new)) result }
 {
-    match load_text(alloc, t) {
-        Ok(machine) => run_machine(alloc, machine, input, out, err),
+    match load_program(alloc, p) {
+        Ok(machine) => run_machine(alloc, machine, steps, input, out, err),
         Err(_) => fail(Failure::NoMemory, err),
     }
 }
 
-/// Tells why a folder gives no text.
+/// Tells why a folder gives no program.
 fn tell_error<E: Sink>(alloc: Global, error: GatherError, err: &mut E) -> Status
     ensures line { TellsError error result (E.written err.old) (E.written err.new) }
     ensures cause { ErrorTellsBy error (Rose (E.faults err.old) (E.faults err.new)) result }
@@ -219,21 +217,22 @@ fn tell_error<E: Sink>(alloc: Global, error: GatherError, err: &mut E) -> Status
     }
 }
 
-/// Carries out `run DIR`.
+/// Runs the package of a folder for so many steps at most.
 fn run_package<F: Folder, S: Source, O: Sink, E: Sink>(
     alloc: Global,
     folder: &mut F,
     dir: &str,
+    steps: u64,
     input: &mut S,
     out: &mut O,
     err: &mut E,
 ) -> Status
-    ensures folder { IfSome (F.tree folder.old) (λ files. AnswersFolder files dir.now (Rose (F.faults folder.old) (F.faults folder.new)) result (told (S.rest input.old) (O.written out.old) (E.written err.old)) (told (S.rest input.new) (O.written out.new) (E.written err.new))) }
-    ensures cause { PackageCause dir.now (F.tree folder.old) (Rose (F.faults folder.old) (F.faults folder.new)) (Rose (S.faults input.old) (S.faults input.new)) (Rose (O.faults out.old) (O.faults out.new) ⊎ Rose (E.faults err.old) (E.faults err.new)) result }
+    ensures folder { IfSome (F.tree folder.old) (λ files. AnswersFolder files dir.now steps (Rose (F.faults folder.old) (F.faults folder.new)) result (told (S.rest input.old) (O.written out.old) (E.written err.old)) (told (S.rest input.new) (O.written out.new) (E.written err.new))) }
+    ensures cause { PackageCause dir.now steps (F.tree folder.old) (Rose (F.faults folder.old) (F.faults folder.new)) (Rose (S.faults input.old) (S.faults input.new)) (Rose (O.faults out.old) (O.faults out.new) ⊎ Rose (E.faults err.old) (E.faults err.new)) result }
     ensures same { F.tree folder.new ≡ F.tree folder.old }
 {
-    match gather_small(alloc, folder, dir) {
-        Ok(t) => run_text(alloc, &t, input, out, err),
+    match gather_program(alloc, folder, dir) {
+        Ok(p) => run_program(alloc, &p, steps, input, out, err),
         Err(error) => tell_error(alloc, error, err),
     }
 }
@@ -247,12 +246,12 @@ fn carry_out<F: Folder, S: Source, O: Sink, E: Sink>(
     out: &mut O,
     err: &mut E,
 ) -> Status
-    ensures folder { IfSome (F.tree folder.old) (λ files. AnswersFolder files (dir_of (command_of command.entry)) (Rose (F.faults folder.old) (F.faults folder.new)) result (told (S.rest input.old) (O.written out.old) (E.written err.old)) (told (S.rest input.new) (O.written out.new) (E.written err.new))) }
-    ensures cause { PackageCause (dir_of (command_of command.entry)) (F.tree folder.old) (Rose (F.faults folder.old) (F.faults folder.new)) (Rose (S.faults input.old) (S.faults input.new)) (Rose (O.faults out.old) (O.faults out.new) ⊎ Rose (E.faults err.old) (E.faults err.new)) result }
+    ensures folder { IfSome (F.tree folder.old) (λ files. AnswersFolder files (dir_of command.entry) (steps_of command.entry) (Rose (F.faults folder.old) (F.faults folder.new)) result (told (S.rest input.old) (O.written out.old) (E.written err.old)) (told (S.rest input.new) (O.written out.new) (E.written err.new))) }
+    ensures cause { PackageCause (dir_of command.entry) (steps_of command.entry) (F.tree folder.old) (Rose (F.faults folder.old) (F.faults folder.new)) (Rose (S.faults input.old) (S.faults input.new)) (Rose (O.faults out.old) (O.faults out.new) ⊎ Rose (E.faults err.old) (E.faults err.new)) result }
     ensures same { F.tree folder.new ≡ F.tree folder.old }
 {
     match command {
-        Command::Run { dir } => run_package(alloc, folder, dir, input, out, err),
+        Command::Run { dir, steps } => run_package(alloc, folder, dir, steps, input, out, err),
     }
 }
 
@@ -270,7 +269,7 @@ pub fn run_tool<F: Folder, S: Source, O: Sink, E: Sink>(
     ensures usage { (i : ℕ) → BadWord (texts words.now) i → Answers (bad_words (texts words.now) i) result (told (S.rest input.old) (O.written out.old) (E.written err.old)) (told (S.rest input.new) (O.written out.new) (E.written err.new)) }
 
     // A package that breaks a rule is refused by it; any other one runs as its source does.
-    ensures run { (dir : List ℕ) → IsRun (texts words.now) dir → IfSome (F.tree folder.old) (λ files. AnswersFolder files dir (Rose (F.faults folder.old) (F.faults folder.new)) result (told (S.rest input.old) (O.written out.old) (E.written err.old)) (told (S.rest input.new) (O.written out.new) (E.written err.new))) }
+    ensures run { (dir : List ℕ) (n : ℕ) → IsRun (texts words.now) dir n → IfSome (F.tree folder.old) (λ files. AnswersFolder files dir n (Rose (F.faults folder.old) (F.faults folder.new)) result (told (S.rest input.old) (O.written out.old) (E.written err.old)) (told (S.rest input.new) (O.written out.new) (E.written err.new))) }
 
     // Each status has its cause.
     ensures cause { HasCause (texts words.now) (F.tree folder.old) (Rose (F.faults folder.old) (F.faults folder.new)) (Rose (S.faults input.old) (S.faults input.new)) (Rose (O.faults out.old) (O.faults out.new) ⊎ Rose (E.faults err.old) (E.faults err.new)) result }

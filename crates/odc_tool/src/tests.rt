@@ -214,6 +214,141 @@ fn texts_of_16_384_bytes_are_taken(rt: HostRuntime) -> Result<(), Fail> {
     Ok(())
 }
 
+/// A whole text of procedures and the lines of `main`.
+fn text_with(alloc: Global, procedures: &[u8], lines: &[u8]) -> Result<Vec<u8>, AllocError> {
+    let mut text = Vec::from_slice(alloc, b"package main\nimport \"core:fmt\"\n")?;
+    text.extend_from_slice(procedures)?;
+    text.extend_from_slice(b"main :: proc() {\n")?;
+    text.extend_from_slice(lines)?;
+    text.extend_from_slice(b"}\n")?;
+    Ok(text)
+}
+
+/// Whether the text prints this, is stopped by a check that this line tells, and ends with 3.
+fn stops(alloc: Global, text: &[u8], out: &[u8], line: &[u8]) -> Result<bool, AllocError> {
+    gives(alloc, &["run", "d"], text, out, line, 3)
+}
+
+#[test]
+fn a_loop_finds_the_greatest_divisor(rt: HostRuntime) -> Result<(), Fail> {
+    let alloc = rt.alloc();
+    let gcd =
+        b"F :: proc(a: int, b: int) -> int {\n\tc := a\n\td := b\n\tfor 0 < d {\n\t\te := c % d\n\t\tc = d\n\t\td = e\n\t}\n\treturn c\n}\n";
+    let text = text_with(alloc, gcd, b"\ta := 84\n\tfmt.println(F(a, 36))\n")?;
+    assert!(rt; prints(alloc, &text, b"12\n")?);
+    Ok(())
+}
+
+#[test]
+fn a_zero_divisor_stops_at_its_operator(rt: HostRuntime) -> Result<(), Fail> {
+    let alloc = rt.alloc();
+    let text = text_of(
+        alloc,
+        b"\ta := 7\n\tb := 0\n\tfmt.println(a)\n\tfmt.println(a / b)\n",
+    )?;
+    let line = b"main.odin:7:16: stopped: division\n";
+    assert!(rt; stops(alloc, &text, b"7\n", line)?);
+    let text = text_of(alloc, b"\ta := 7\n\tb := 0\n\tfmt.println(a % b)\n")?;
+    assert!(rt; stops(alloc, &text, b"", b"main.odin:6:16: stopped: division\n")?);
+    Ok(())
+}
+
+#[test]
+fn endless_calls_stop_at_the_stack(rt: HostRuntime) -> Result<(), Fail> {
+    let alloc = rt.alloc();
+    let endless = b"F :: proc(a: int) -> int {\n\treturn F(a)\n}\n";
+    let text = text_with(alloc, endless, b"\tfmt.println(F(1))\n")?;
+    assert!(rt; stops(alloc, &text, b"", b"main.odin:3:6: stopped: stack\n")?);
+    Ok(())
+}
+
+// The frame of D: 256, three variables of 136 bytes, 400 for the first line, 272 for the declaration, 400
+// for each assignment, and 704 for the answer, rounded up to 802,048; that of `main` is 800. So 167 frames
+// of D have room in 128 MiB.
+#[test]
+fn the_stack_has_room_for_so_many_frames(rt: HostRuntime) -> Result<(), Fail> {
+    let alloc = rt.alloc();
+    let mut deep = Vec::from_slice(
+        alloc,
+        b"D :: proc(n: int) -> int {\n\tfmt.println(n)\n\ta := 1\n",
+    )?;
+    for _ in 0..2000 {
+        deep.extend_from_slice(b"\ta = 1\n")?;
+    }
+    deep.extend_from_slice(b"\treturn D(n + 1)\n}\n")?;
+    let text = text_with(alloc, &deep, b"\tfmt.println(D(1))\n")?;
+    let mut depths = String::new(alloc);
+    for depth in 1..168u64 {
+        depths.push_str(format!(in alloc; "{depth}\n")?.as_str())?;
+    }
+    let line = b"main.odin:3:6: stopped: stack\n";
+    assert!(rt; stops(alloc, &text, depths.as_bytes(), line)?);
+    Ok(())
+}
+
+#[test]
+fn quotients_are_cut_toward_zero(rt: HostRuntime) -> Result<(), Fail> {
+    let alloc = rt.alloc();
+    let lines =
+        b"\ta := 0 - 7\n\tb := 3\n\tc := 0 - b\n\tfmt.println(a / b, a % b, a / c, a % c, b / c)\n";
+    assert!(rt; lines_print(alloc, lines, b"-2 -1 2 -1 -1\n")?);
+    let lines =
+        b"\ta := 256\n\tb := a * a * a * a * a * a * a * 128\n\tc := 0 - 1\n\tfmt.println(b / c, b % c)\n";
+    assert!(rt; lines_print(alloc, lines, b"-9223372036854775808 0\n")?);
+    Ok(())
+}
+
+#[test]
+fn conditions_choose(rt: HostRuntime) -> Result<(), Fail> {
+    let alloc = rt.alloc();
+    let lines =
+        b"\ta := 1\n\tif a < 2 {\n\t\tfmt.println(1)\n\t}\n\tif a == 2 {\n\t\tfmt.println(2)\n\t}\n\tif 1 + 1 == 2 {\n\t\tfmt.println(3)\n\t}\n\tif 3 < 2 {\n\t\tfmt.println(4)\n\t}\n";
+    assert!(rt; lines_print(alloc, lines, b"1\n3\n")?);
+    Ok(())
+}
+
+#[test]
+fn operands_and_arguments_go_from_left_to_right(rt: HostRuntime) -> Result<(), Fail> {
+    let alloc = rt.alloc();
+    let told =
+        b"T :: proc(a: int) -> int {\n\tfmt.println(a)\n\treturn a\n}\nS :: proc(a: int, b: int) -> int {\n\treturn a - b\n}\n";
+    let text = text_with(alloc, told, b"\tfmt.println(T(5) - T(3), S(T(9), T(4)))\n")?;
+    assert!(rt; prints(alloc, &text, b"5\n3\n9\n4\n2 5\n")?);
+    Ok(())
+}
+
+#[test]
+fn procedures_call_one_another(rt: HostRuntime) -> Result<(), Fail> {
+    let alloc = rt.alloc();
+    let both =
+        b"E :: proc(n: int) -> int {\n\tr := 1\n\tif 0 < n {\n\t\tr = O(n - 1)\n\t}\n\treturn r\n}\nO :: proc(n: int) -> int {\n\tr := 0\n\tif 0 < n {\n\t\tr = E(n - 1)\n\t}\n\treturn r\n}\n";
+    let text = text_with(alloc, both, b"\tfmt.println(E(7), E(10), O(7))\n")?;
+    assert!(rt; prints(alloc, &text, b"0 1 1\n")?);
+    Ok(())
+}
+
+#[test]
+fn a_loop_goes_on_until_the_steps_are_out(rt: HostRuntime) -> Result<(), Fail> {
+    let alloc = rt.alloc();
+    let text = text_of(alloc, b"\ta := 1\n\tfor a == 1 {\n\t}\n")?;
+    let line = b"odin_rv: stopped after 1000 steps\n";
+    assert!(rt; gives(alloc, &["run", "d", "--steps", "1000"], &text, b"", line, 4)?);
+    let line = b"odin_rv: stopped after 0 steps\n";
+    assert!(rt; gives(alloc, &["run", "d", "--steps", "0"], &text, b"", line, 4)?);
+    Ok(())
+}
+
+#[test]
+fn steps_are_given_once(rt: HostRuntime) -> Result<(), Fail> {
+    let alloc = rt.alloc();
+    let text = text_of(alloc, b"\tfmt.println(7)\n")?;
+    let all = ["run", "d", "--steps", "1", "--steps", "2"];
+    assert!(rt; gives(alloc, &all, &text, b"", b"odin_rv: bad word --steps\n", 2)?);
+    let all = ["run", "d", "--steps", "100000"];
+    assert!(rt; gives(alloc, &all, &text, b"7\n", b"", 0)?);
+    Ok(())
+}
+
 #[test]
 fn an_empty_main_is_silent(rt: HostRuntime) -> Result<(), Fail> {
     let text = b"package main\nimport \"core:fmt\"\nmain :: proc() {\n}\n";

@@ -1,51 +1,46 @@
-use Rattle.std.proofs.Common.{◌≤◌, ◌^◌, arith, ◌∙◌, sym, subst}
-use Rattle.std.specs.Prelude.{map}
-use Rattle.odc_text.proofs.Keep.{keeps_follows_on}
-use Rattle.odc_typed.specs.View.{proc, program}
-use Rattle.odc_typed.specs.Frame.{frame}
-use Rattle.odc_build.specs.Encoded.{AllFit}
-use Rattle.odc_build.specs.Kept.{placed}
-use Rattle.odc_build.proofs.Chosen.{chosen, well_at, frame_at}
-use Rattle.odc_build.proofs.Sizes.{code_fit, code_short}
-use Rattle.odc_build.proofs.Whole.{keeps_program}
+use Rattle.std.proofs.Common.{sym, subst, refl}
+use Rattle.odc_typed.specs.View.{program}
+use Rattle.odc_core.specs.Tree.{Whole as CoreWhole}
+use Rattle.odc_mid.specs.View.{program as mid_program}
+use Rattle.odc_mid.specs.Tree.{Whole as MidWhole}
+use Rattle.odc_context.specs.Code.{crossed_program}
+use Rattle.odc_lower.specs.Size.{AreCountable}
+use Rattle.odc_lower.specs.Lowered.{IsLowered, IsKept}
+use Rattle.odc_build.specs.Kept.{image_from}
+use Rattle.odc_build.proofs.Whole.{all_countable, have_slots, is_short, same_image, all_built}
 use Rattle.odc_build.proofs.compile.compile.Goals as goal
 
-pub code_of-requires : goal.code_of-requires
-code_of-requires c =
-    let items = c.args.p.now.procedures.items in
-    let main = c.args.p.now.main in
-    let x = c.index-main.result.now in
-    frame_at (map proc items) main (proc x) c.requires.frames (chosen items main x c.index-main.ensures c.requires.well.main)
+pub lower-requires-clause-countable : goal.lower-requires-clause-countable
+lower-requires-clause-countable c =
+    subst (λ (x : CoreWhole). AreCountable x.procedures) (sym c.in_ok-core.ensures.crossed) (all_countable (program c.args.p.now) c.requires.well c.requires.within)
 
-pub encoded-requires : goal.encoded-requires
-encoded-requires c =
-    let items = c.args.p.now.procedures.items in
-    let main = c.args.p.now.main in
-    let x = c.index-main.result.now in
-    let is = chosen items main x c.index-main.ensures c.requires.well.main in
-    let well = well_at (map proc items) main (proc x) c.requires.well.procedures is in
-    let fits : frame (proc x) ≤ 2 ^ 24 = frame_at (map proc items) main (proc x) c.requires.frames is in
-    subst AllFit (sym (c.deref.ensures.value ∙ c.in_ok-code.ensures)) (code_fit (proc x) well fits)
+pub image-requires-clause-slots : goal.image-requires-clause-slots
+image-requires-clause-slots c =
+    let w = program c.args.p.now in
+    let q : MidWhole = mid_program c.in_ok-mid.mid in
+    let lowered : IsLowered (crossed_program w) q = subst (λ (x : CoreWhole). IsLowered x q) c.in_ok-core.ensures.crossed c.in_ok-mid.ensures.carried in
+    have_slots w q lowered
 
-pub returns-clause-kept : goal.returns-clause-kept
-returns-clause-kept c =
-    let items = c.args.p.now.procedures.items in
-    let main = c.args.p.now.main in
-    let x = c.index-main.result.now in
-    let is = chosen items main x c.index-main.ensures c.requires.well.main in
-    let well = well_at (map proc items) main (proc x) c.requires.well.procedures is in
-    let fits : frame (proc x) ≤ 2 ^ 24 = frame_at (map proc items) main (proc x) c.requires.frames is in
-    λ entry_of input. keeps_program entry_of (program c.args.p.now) (proc x) c.in_ok-text.text.items input c.deref.result.now is well (omega arith) (code_short (proc x) well fits) c.in_ok-text.ensures
-    (c.deref.ensures.value ∙ c.in_ok-code.ensures)
+pub image-requires-clause-short : goal.image-requires-clause-short
+image-requires-clause-short c =
+    let w = program c.args.p.now in
+    let q : MidWhole = mid_program c.in_ok-mid.mid in
+    let lowered : IsLowered (crossed_program w) q = subst (λ (x : CoreWhole). IsLowered x q) c.in_ok-core.ensures.crossed c.in_ok-mid.ensures.carried in
+    is_short w q lowered c.requires.well c.requires.within
 
-pub returns-clause-followed : goal.returns-clause-followed
-returns-clause-followed c =
-    let items = c.args.p.now.procedures.items in
-    let main = c.args.p.now.main in
-    let x = c.index-main.result.now in
-    let is = chosen items main x c.index-main.ensures c.requires.well.main in
-    let well = well_at (map proc items) main (proc x) c.requires.well.procedures is in
-    let fits : frame (proc x) ≤ 2 ^ 24 = frame_at (map proc items) main (proc x) c.requires.frames is in
-    λ entry_of input. keeps_follows_on 20 25 (placed entry_of) _ _ input
-    (keeps_program entry_of (program c.args.p.now) (proc x) c.in_ok-text.text.items input c.deref.result.now is well (omega arith) (code_short (proc x) well fits) c.in_ok-text.ensures
-    (c.deref.ensures.value ∙ c.in_ok-code.ensures))
+pub returns : goal.returns
+returns c =
+    let w = program c.args.p.now in
+    let q : MidWhole = mid_program c.in_ok-mid.mid in
+    let lowered : IsLowered (crossed_program w) q = subst (λ (x : CoreWhole). IsLowered x q) c.in_ok-core.ensures.crossed c.in_ok-mid.ensures.carried in
+    let kept : IsKept (crossed_program w) q = subst (λ (x : CoreWhole). IsKept x q) c.in_ok-core.ensures.crossed c.in_ok-mid.ensures.kept in
+    let text = c.in_ok-made.made.text.items in
+    let store = c.in_ok-mid.mid.store.items in
+    let size = c.in_ok-mid.mid.store_size in
+    let sites = c.in_ok-made.made.sites.items in
+    let calls = c.in_ok-made.made.calls.items in
+    record {
+      store = c.in_ok-mid.ensures.well.store;
+      built = all_built w q lowered c.requires.well text kept c.in_ok-made.ensures.kept (image_from text store size sites calls)
+          (same_image w q lowered text store size sites calls refl refl c.in_ok-made.ensures.sites c.in_ok-made.ensures.calls);
+    }

@@ -1,0 +1,9 @@
+use Rattle.std.proofs.Common.{length, take, ◌-◌, ◌≤◌}
+use Rattle.std.specs.Str.Parse.{AllDigits}
+use Rattle.odc_small.proofs.pieces.split_digits.Given as goal
+
+abbrev pub invariant-loop-end : goal.invariant-loop-end
+invariant-loop-end l = record { within : l.end ≤ length l.bytes; digits : AllDigits 10 (take l.end l.bytes) }
+
+abbrev pub decreases-loop-end : goal.decreases-loop-end
+decreases-loop-end l = length l.bytes - l.end

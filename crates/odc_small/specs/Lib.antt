@@ -1,0 +1,9 @@
+pub mod Forms
+pub mod Grammar
+pub mod Names
+pub mod Progress
+pub mod Reading
+pub mod Small
+pub mod Text
+pub mod Typing
+pub mod View
