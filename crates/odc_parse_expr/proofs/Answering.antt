@@ -157,7 +157,7 @@ at_most : (s : List Sym) (ts : List Token) → size s ts ≤ suc (2 * length ts)
 at_most [] ts = omega arith
 at_most (x ∷ s) ts = omega arith
 
-nothing_read : (t : Token) (us : List Token) (s' : List Sym) (ts' : List Token) → Reach s' ts' [] (t ∷ us) → size s' ts' ≤ suc (2 * length us) → ⊥
+pub nothing_read : (t : Token) (us : List Token) (s' : List Sym) (ts' : List Token) → Reach s' ts' [] (t ∷ us) → size s' ts' ≤ suc (2 * length us) → ⊥
 nothing_read t us _ _ here n = omega (arith, n)
 
 -- a tail of a chain isn't read

@@ -11,12 +11,12 @@ use Rattle.odc_syntax.specs.Grammar.{Sym}
 use Rattle.odc_syntax.specs.Grammar as g
 use Rattle.odc_syntax.specs.Derives.{StartsWithout}
 use Rattle.odc_parse_expr.specs.Exact.{Part, then_, done, token, behind}
+use Rattle.odc_parse_expr.specs.Parts.{arg_item, arguments}
 use Rattle.odc_parse_expr.specs.Sets.{starts_expression, continues, nothing_continues}
 use Rattle.odc_parse_expr.proofs.Opening.{OpensAll}
 use Rattle.odc_parse_expr.proofs.Leading.{Led}
 use Rattle.odc_parse_expr.proofs.ListLemmas.{list_open, list_empty}
-use Rattle.odc_parse_expr.proofs.ListRules.{arg_item, arg_cons, args_listed}
-use Rattle.odc_parse_expr.proofs.BracketLemmas.{arguments}
+use Rattle.odc_parse_expr.proofs.ListRules.{arg_cons, args_listed}
 use Rattle.odc_parse_expr.proofs.Samples as sample
 
 -- a token that closes a list of arguments
@@ -31,7 +31,7 @@ paren_closes = record { no_comma = λ e. cc; no_start = λ i. false; goes_nowher
 pub brace_closes : Closes kind.CloseBrace
 brace_closes = record { no_comma = λ e. cc; no_start = λ i. false; goes_nowhere = λ i. false }
 
-arg_closes : (close : TokenKind) → Closes close → (c : ℕ) (v : _) (s : List Sym) (t : Token) (us : List Token) → t.kind ≡ close → OpensAll (arg_item c v ++ s) (t ∷ us) → ⊥
+pub arg_closes : (close : TokenKind) → Closes close → (c : ℕ) (v : _) (s : List Sym) (t : Token) (us : List Token) → t.kind ≡ close → OpensAll (arg_item c v ++ s) (t ∷ us) → ⊥
 arg_closes close closes c v s t us e o = let bad : false ≡ true = sym closes.no_start ∙ sym (ap (starts_expression Free) e) ∙ o in cc
 
 -- an argument with what is left of the list

@@ -1,7 +1,6 @@
 -- What stands behind an operand in brackets: calls, literals, indices and cuts.
 use Rattle.std.proofs.Common.{◌≡◌, ℕ, ◌*◌, ◌≤◌, true, List, [], ◌∷◌, ◌++◌, length, refl, sym, ap, subst, arith}
 use Rattle.odc_syntax.specs.declared.token.Token.{Token}
-use Rattle.odc_syntax.specs.declared.token.TokenKind.{TokenKind}
 use Rattle.odc_syntax.specs.declared.token.TokenKind.TheVariants as kind
 use Rattle.odc_syntax.specs.declared.grammar.Mode.{Mode}
 use Rattle.odc_syntax.specs.declared.grammar.Mode.TheVariants.{Free}
@@ -11,6 +10,7 @@ use Rattle.odc_syntax.specs.Grammar.{Sym, tok, Rule, later, suffix, Suffix, suff
 use Rattle.odc_syntax.specs.Grammar as g
 use Rattle.odc_syntax.specs.Derives.{Reach, here, read, write, StartsWithout}
 use Rattle.odc_parse_expr.specs.Exact.{size, Part, one, then_, done, token}
+use Rattle.odc_parse_expr.specs.Parts.{arguments}
 use Rattle.odc_parse_expr.specs.Sets.{takes_braces, nothing_continues}
 use Rattle.odc_parse_expr.proofs.Reaching.{behind_token, behind_part}
 use Rattle.odc_parse_expr.proofs.Leading.{same_depth, Pending, Led, first_is, without}
@@ -18,10 +18,6 @@ use Rattle.odc_parse_expr.proofs.Answering.{led_at}
 use Rattle.odc_parse_expr.proofs.SuffixLemmas.{suffix_kind, suffix_first, at_rest}
 use Rattle.odc_parse_expr.proofs.PostfixLemmas.{takes_free}
 use Rattle.odc_parse_expr.proofs.Samples as sample
-
--- the arguments of a call, up to the closing token
-abbrev pub arguments : TokenKind → Part (Args × (Token × Unit {0}))
-arguments close = then_ g.args (then_ (token close) done)
 
 call_split : (m : Mode) (t : Token) (us : List Token) → t.kind ≡ kind.OpenParen → (c : ℕ) (w : Suffix) (p : List Sym) (rule : Rule (suffix m c w) p) → t.kind ≡ suffix_kind rule →
     (s s' : List Sym) (ts' : List Token) → Reach s' ts' (p ++ s) (t ∷ us) → size s' ts' ≤ 2 * length us → Pending (λ n. n) (arguments kind.CloseParen) (λ u. g.call u.0) 0 us c w s s' ts'

@@ -10,6 +10,7 @@ use Rattle.odc_syntax.specs.Grammar.{Sym, tok, Rule, suffix, Suffix, suffix_inde
 use Rattle.odc_syntax.specs.Grammar as g
 use Rattle.odc_syntax.specs.Derives.{Reach, here, read, write, StartsWithout}
 use Rattle.odc_parse_expr.specs.Exact.{size, Part, then_, done, token, Broken, TooDeep}
+use Rattle.odc_parse_expr.specs.Parts.{high_line}
 use Rattle.odc_parse_expr.specs.Sets.{starts_expression}
 use Rattle.odc_parse_expr.proofs.Opening.{reach_opens}
 use Rattle.odc_parse_expr.proofs.Reaching.{behind_token, behind_part}
@@ -18,10 +19,6 @@ use Rattle.odc_parse_expr.proofs.Answering.{led_step, led_stuck, led_over, Stepp
 use Rattle.odc_parse_expr.proofs.SuffixLemmas.{at_rest}
 use Rattle.odc_parse_expr.proofs.BracketLemmas.{Behind, ends, goes_on, behind_line}
 use Rattle.odc_parse_expr.proofs.Samples as sample
-
--- the high end of a cut, and the closing bracket
-abbrev pub high_line : Part (MaybeExpr × (Token × Unit {0}))
-high_line = then_ (g.maybe_expr Free) (then_ (token kind.CloseBracket) done)
 
 abbrev pub rest_of_cut : Token → MaybeExpr × (Token × Unit {0}) → Behind
 rest_of_cut d u = goes_on d u.0 u.1.0

@@ -1,4 +1,5 @@
 pub mod Samples
+pub mod Views
 pub mod Reaching
 pub mod Leading
 pub mod Chaining
@@ -17,3 +18,11 @@ pub mod OperandLemmas
 pub mod Worked
 pub mod CutLemmas
 pub mod ArgsLemmas
+pub mod FormLemmas
+pub mod WholeLemmas
+pub mod ArgLemmas
+pub mod SuffixAnswers
+pub mod OperandAnswers
+pub mod CastLemmas
+pub mod ArgumentAnswers
+pub mod TypeLemmas

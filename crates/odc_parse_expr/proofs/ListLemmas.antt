@@ -10,6 +10,7 @@ use Rattle.odc_parse_expr.specs.declared.stop.Stop.{Stop}
 use Rattle.odc_parse_expr.specs.declared.stop.Stop.TheVariants as stop
 use Rattle.odc_parse_expr.specs.Exact.{size, Clear, Part, then_, done, token, behind, Exact, Found, Broken, TooDeep}
 use Rattle.odc_parse_expr.specs.Read.{refused}
+use Rattle.odc_parse_expr.specs.Lists.{Ended, at_once, trailing, Again, NotGoing}
 use Rattle.odc_parse_expr.proofs.Opening.{OpensAll, reach_opens}
 use Rattle.odc_parse_expr.proofs.Reaching.{along, moved, IsPart, behind_part, behind_token}
 use Rattle.odc_parse_expr.proofs.Leading.{same_depth, Pending, Led, first_is, rest_is, without}
@@ -352,3 +353,24 @@ module _ {V L : Type 0} (item : Part V) (list more : ℕ → L → Sym) (nil : L
         let z = behind_part (rules.more_part c u.0) r (omega (arith, h)) in
         not_left cont t us comma closing on c u z.as_symbols s (rules.more_cases c u.0 z.as_symbols z.rule) z.reach (omega (arith, h));
   }
+
+  -- the list ends behind an item
+  pub list_ended : {V' : Type 0} {p : Part V'} {cont : TokenKind → Bool} {b : ℕ} {ts : List Token} {f : L × (Token × Unit {0}) → V'} {n : ℕ} {rest : List Token} (t : Token) (us : List Token) → Ended close rest t us → n ≤ b →
+      Led p cont (λ n. n) b ts Left f n rest → Led p cont (λ n. n) b ts done (λ u. f (nil, (t, tt))) n us
+  list_ended {p = p} {cont = cont} {b = b} {ts = ts} {f = f} {n = n} t us (at_once c) within l =
+      more_close t us c.kind within (subst (λ (r : List Token). Led p cont (λ n. n) b ts Left f n r) c.is l)
+  list_ended {p = p} {cont = cont} {b = b} {ts = ts} {f = f} {n = n} t us (trailing vs k c) within l =
+      more_trailing k.comma t us k.kind c.kind within (subst (λ (r : List Token). Led p cont (λ n. n) b ts Left f n r) (k.is ∙ ap (λ (l : List Token). k.comma ∷ l) c.is) l)
+
+  -- it goes on with a further item
+  pub list_again : {V' : Type 0} {p : Part V'} {cont : TokenKind → Bool} {b : ℕ} {ts : List Token} {f : L × (Token × Unit {0}) → V'} {n : ℕ} {rest : List Token} (us : List Token) → Again close rest us → n ≤ b →
+      Led p cont (λ n. n) b ts Left f n rest → Led p cont (λ n. n) b ts Next (λ u. f (longer u)) n us
+  list_again {p = p} {cont = cont} {b = b} {ts = ts} {f = f} {n = n} us a within l =
+      more_again a.parted.comma us a.parted.kind a.open_ within (subst (λ (r : List Token). Led p cont (λ n. n) b ts Left f n r) a.parted.is l)
+
+  -- it does not go on
+  pub list_refused : {V' : Type 0} {p : Part V'} {cont : TokenKind → Bool} {b : ℕ} {ts : List Token} {f : L × (Token × Unit {0}) → V'} {n : ℕ} {rest : List Token} (e : Stop) (within : Bool) → NotGoing close within rest e → (within ≡ false → b < n) →
+      Led p cont (λ n. n) b ts Left f n rest → Exact p cont b ts (refused e)
+  list_refused {p = p} {cont = cont} {b = b} {ts = ts} (stop.Syntax left) within h over l = subst (λ (k : ℕ). Broken p cont b ts k) (sym h.left_is) (more_broken h.comma h.closing l)
+  list_refused {p = p} {cont = cont} {b = b} {ts = ts} (stop.Deep left) within h over l = subst (λ (k : ℕ). TooDeep p cont b ts k) (sym h.0.left_is) (more_deep h.0.first h.0.rest h.0.is h.0.kind (over h.1) l)
+  list_refused stop.Memory within h over l = elim h [ ]

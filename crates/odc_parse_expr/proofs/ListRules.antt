@@ -8,12 +8,10 @@ use Rattle.odc_syntax.specs.Tree as tree
 use Rattle.odc_syntax.specs.Grammar.{Sym, tok, Rule}
 use Rattle.odc_syntax.specs.Grammar as g
 use Rattle.odc_parse_expr.specs.Exact.{Part}
+use Rattle.odc_parse_expr.specs.Parts.{arg_item}
 use Rattle.odc_parse_expr.proofs.ListLemmas.{Item, Listed}
 
 -- arguments
-abbrev pub arg_item : Part (Option Token × Expr)
-arg_item c v = g.arg c v.0 v.1 ∷ []
-
 abbrev pub arg_cons : Option Token × Expr → Args → Args
 arg_cons v l = tree.more_args v.0 v.1 l
 

@@ -23,7 +23,7 @@ use Rattle.odc_parse_expr.proofs.Reaching.{behind_token, behind_said, behind_par
 use Rattle.odc_parse_expr.proofs.Leading.{one_deeper, Pending, Led, led_done, first_is}
 use Rattle.odc_parse_expr.proofs.Answering.{led_at, led_start}
 use Rattle.odc_parse_expr.proofs.SuffixLemmas.{at_rest}
-use Rattle.odc_parse_expr.proofs.BracketLemmas.{arguments}
+use Rattle.odc_parse_expr.specs.Parts.{arguments}
 use Rattle.odc_parse_expr.proofs.Samples as sample
 
 abbrev pub rule_form : {m : Mode} {c : ℕ} {w : Expr} {p : List Sym} → Rule (operand m c w) p → OperandForm

@@ -115,7 +115,7 @@ SignRead m b ts t op us = Led (one (g.unary m)) (starts_suffix m) (λ n. suc n) 
 sign_read : (m : Mode) (b : ℕ) (ts : List Token) (t : Token) (us : List Token) (op : UnaryOp) → ts ≡ t ∷ us → unary_form t.kind ≡ form.Sign op → SignRead m b ts t op us
 sign_read m b ts t us op is e = token_read one_deeper (sign_at m b ts t us op is e) (omega arith) is refl
 
-clears : (m : Mode) (c : ℕ) (u : Unit {0}) (s : List Sym) → Clear (starts_suffix m) s → Clear (starts_suffix (later m)) (done c u ++ s)
+pub clears : (m : Mode) (c : ℕ) (u : Unit {0}) (s : List Sym) → Clear (starts_suffix m) s → Clear (starts_suffix (later m)) (done c u ++ s)
 unfolding done
 clears m c u s h = clear_as (same_suffix m) h
 

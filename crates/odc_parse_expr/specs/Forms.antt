@@ -1,4 +1,5 @@
--- What an operand is, by its first token.
+-- What an operand is, and what stands behind it, by the first token.
+use Rattle.std.specs.Prelude.{Bool, true, false, Option, Some, None}
 use Rattle.odc_syntax.specs.declared.token.Token.{Token}
 use Rattle.odc_syntax.specs.declared.token.TokenKind.{TokenKind}
 use Rattle.odc_syntax.specs.declared.token.TokenKind.TheVariants as kind
@@ -8,6 +9,12 @@ use Rattle.odc_syntax.specs.declared.grammar.Mode.{Mode}
 use Rattle.odc_syntax.specs.declared.grammar.Mode.TheVariants.{Free, Header, Start}
 use Rattle.odc_parse_expr.specs.declared.operand.OperandForm.{OperandForm}
 use Rattle.odc_parse_expr.specs.declared.operand.OperandForm.TheVariants as form
+use Rattle.odc_parse_expr.specs.declared.suffix.SuffixForm.{SuffixForm}
+use Rattle.odc_parse_expr.specs.declared.suffix.SuffixForm.TheVariants as suffix
+use Rattle.odc_syntax.specs.Tree as tree
+use Rattle.odc_syntax.specs.View.{kind as kind_of}
+use Rattle.odc_syntax.specs.declared.tree.ExprKind.{ExprKind}
+use Rattle.odc_parse_expr.specs.Sets.{takes_braces}
 
 abbrev pub directive_form : Word → OperandForm
 directive_form word.CallerLocation = form.Location
@@ -41,3 +48,30 @@ form_by m _ w = form.Nothing
 
 abbrev pub operand_form : Mode → Token → OperandForm
 operand_form m t = form_by m t.kind t.word
+
+abbrev pub literal_form : Bool → SuffixForm
+literal_form true = suffix.Literal
+literal_form false = suffix.Nothing
+
+abbrev pub suffix_form : Mode → TokenKind → SuffixForm
+suffix_form m kind.Dot = suffix.Member
+suffix_form m kind.Caret = suffix.Deref
+suffix_form m kind.OpenBracket = suffix.Bracket
+suffix_form m kind.OpenParen = suffix.Call
+suffix_form m kind.OrReturn = suffix.OrReturn
+suffix_form m kind.OpenBrace = literal_form (takes_braces m)
+suffix_form m _ = suffix.Nothing
+
+-- an operand of one token
+abbrev pub leaf_of : OperandForm → Token → Option tree.ExprKind
+leaf_of form.Name t = Some (tree.name t)
+leaf_of form.Int t = Some (tree.int t)
+leaf_of form.Rune t = Some (tree.rune t)
+leaf_of form.Text t = Some (tree.text t)
+leaf_of form.Context t = Some tree.context
+leaf_of form.Location t = Some tree.location
+leaf_of _ t = None
+
+abbrev pub leaf_view : Option ExprKind → Option tree.ExprKind
+leaf_view None = None
+leaf_view (Some k) = Some (kind_of k)

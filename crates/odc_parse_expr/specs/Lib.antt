@@ -6,5 +6,9 @@ pub mod Read
 pub mod Sets
 -- what an operand is, by its first token
 pub mod Forms
+-- parts of productions that functions read of their own
+pub mod Parts
+-- how lists go on behind an item
+pub mod Lists
 -- the worked cases
 pub mod Worked

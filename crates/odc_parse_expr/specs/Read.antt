@@ -13,6 +13,8 @@ use Rattle.odc_parse_expr.specs.declared.unary.UnaryForm.TheVariants as form
 use Rattle.odc_syntax.specs.declared.grammar.Level.{Level}
 use Rattle.odc_parse_expr.specs.declared.stop.Stop.{Stop}
 use Rattle.odc_parse_expr.specs.declared.stop.Stop.TheVariants as stop
+use Rattle.odc_syntax.specs.declared.grammar.Mode.{Mode}
+use Rattle.odc_parse_expr.specs.Sets.{starts_suffix}
 use Rattle.odc_parse_expr.specs.Exact.{Answer, Yes, Syntax, Deep, NoMemory}
 
 abbrev pub refused : {V : Type 0} → Stop → Answer V
@@ -40,10 +42,20 @@ NotExpected k within ts (stop.Syntax left) = (left ≡ length ts) × StartsWitho
 NotExpected k within ts (stop.Deep left) = IsThere k within ts left
 NotExpected k within ts stop.Memory = ⊥
 
+-- a token of this kind stands first
+abbrev pub StartsWith : TokenKind → List Token → Type 0
+StartsWith k [] = ⊥
+StartsWith k (t ∷ ts) = t.kind ≡ k
+
 -- no operator of this level stands first
 abbrev pub NoOperator : Level → List Token → Type 0
 NoOperator l [] = Unit {0}
 NoOperator l (t ∷ ts) = (op : BinaryOp) → operator_of t.kind ≡ Some op → level_of op ≡ l → ⊥
+
+-- nothing that may stand behind an operand stands first
+abbrev pub NoSuffix : Mode → List Token → Type 0
+NoSuffix m [] = Unit {0}
+NoSuffix m (t ∷ ts) = starts_suffix m t.kind ≡ false
 
 -- how a unary expression begins
 abbrev pub sign_form : Option UnaryOp → TokenKind → UnaryForm

@@ -1,7 +1,7 @@
 -- Which kinds of tokens the parts of the grammar begin with, and which go on with a part.
 use Rattle.std.specs.Prelude.{ℕ, suc, ◌==◌, Bool, true, false, ◌||◌, Option, Some, None, nat_le}
 use Rattle.odc_syntax.specs.declared.token.TokenKind.{TokenKind}
-use Rattle.odc_syntax.specs.declared.token.TokenKind.TheVariants.{Name, Int, Rune, Text, Directive, Proc, Struct, Union, Enum, Distinct, Context, Cast, OrReturn, OpenParen, OpenBracket, OpenBrace, Dot, Caret, Dollar, If, For, Switch, Defer, Return, Break, Continue, Fallthrough, Ampersand}
+use Rattle.odc_syntax.specs.declared.token.TokenKind.TheVariants.{Name, Int, Rune, Text, Directive, Proc, Struct, Union, Enum, Distinct, Context, Cast, OrReturn, OpenParen, OpenBracket, OpenBrace, Dot, Caret, Dollar, If, For, Switch, Defer, Return, Break, Continue, Fallthrough, Ampersand, Assign}
 use Rattle.odc_syntax.specs.declared.tree.BinaryOp.{BinaryOp}
 use Rattle.odc_syntax.specs.declared.tree.UnaryOp.{UnaryOp}
 use Rattle.odc_syntax.specs.declared.grammar.Mode.{Mode}
@@ -152,3 +152,8 @@ weight level.And = 12
 weight level.Comparison = 9
 weight level.Sum = 6
 weight level.Product = 3
+
+-- what may go on with an argument: what goes on with an expression, and `=` behind a name
+abbrev pub continues_argument : TokenKind → Bool
+continues_argument Assign = true
+continues_argument k = continues level.Or Free k

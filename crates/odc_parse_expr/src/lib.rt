@@ -1,13 +1,17 @@
 // The ground of the parser: when what a function answers that reads a part of the grammar is right, and how
 // the answers for parts make the answer for the whole. A production is read symbol by symbol
 // (`proofs/Leading.antt`), a left-nested part item by item (`proofs/Chaining.antt`), a list up to its
-// closing token (`proofs/ListLemmas.antt`). The functions here say what tokens begin with and which
-// operators they are. It assumes nothing of the tokens. No function reads an expression yet.
+// closing token (`proofs/ListLemmas.antt`); the files named `Answers` have a lemma for each way that the
+// reading of an operand, of what stands behind it and of arguments may end. The functions here say what
+// tokens begin with, which operators they are, and how lists go on. It assumes nothing of the tokens. No
+// function reads an expression yet.
 #![tactic(auto)]
 
 pub mod laws;
+pub mod lists;
 pub mod operand;
 pub mod operators;
 pub mod stop;
+pub mod suffix;
 pub mod tokens;
 pub mod unary;

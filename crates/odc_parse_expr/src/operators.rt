@@ -2,10 +2,12 @@
 
 ghost use Rattle.std.specs.Prelude.{◌≡◌, ◌∷◌, true, Some, IfSome, IfNone, ◌↔◌, IsTrue};
 ghost use Rattle.odc_syntax.specs.Grammar.{later};
+ghost use Rattle.odc_syntax.specs.declared.grammar.Level.TheVariants as level;
 ghost use Rattle.odc_syntax.specs.Operators.{prefix_of, operator_of, level_of};
-ghost use Rattle.odc_parse_expr.specs.Sets.{rank, has_rank};
+ghost use Rattle.odc_parse_expr.specs.Sets.{continues};
 ghost use Rattle.odc_parse_expr.specs.Read.{NoOperator};
 
+use crate::suffix::starts_suffix;
 use crate::tokens::first;
 use odc_syntax::grammar::{Level, Mode};
 use odc_syntax::token::{Token, TokenKind};
@@ -94,6 +96,13 @@ fn same_level(a: Level, b: Level) -> bool
     ensures { IsTrue result ↔ (a ≡ b) }
 {
     a as u8 == b as u8
+}
+
+/// Whether any expression that stands so may go on with a token of this kind.
+pub fn goes_on(mode: Mode, kind: TokenKind) -> bool
+    ensures { result ≡ continues level.Or mode kind }
+{
+    starts_suffix(mode, kind) || operator_of(kind).is_some()
 }
 
 /// An operator of this level that stands first, its token, and the tokens behind it.
