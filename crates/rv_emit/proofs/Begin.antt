@@ -9,7 +9,7 @@ use Rattle.rv_table.specs.declared.inst.Inst.{Inst}
 use Rattle.rv_table.specs.declared.inst.Inst.TheVariants.{Jalr, Addi, Ecall}
 use Rattle.odc_core.specs.Well.{AreBytes}
 use Rattle.odc_mid.specs.Tree.{Proc, Whole}
-use Rattle.rv_emit.specs.Code.{entry_of, number_code}
+use Rattle.rv_emit.specs.Code.{number_code}
 use Rattle.rv_emit.proofs.Flat.{Setting, layout, Flat, Regs, stands_parts, Reaches}
 use Rattle.rv_emit.proofs.Steps.{putting, adds, shifts, jumps}
 use Rattle.rv_emit.proofs.Numbers.{number_sim}
@@ -38,7 +38,7 @@ use Rattle.std.specs.List.{flat_map}
 use Rattle.std.specs.Int.{w32}
 use Rattle.std.proofs.Common.{length-append}
 use Rattle.std.proofs.lemmas.List.{length-replicate, get_or-replicate}
-use Rattle.rv_table.specs.Run.{Range, area_of, started, machine}
+use Rattle.rv_table.specs.Run.{Range, Site, area_of, started, machine}
 use Rattle.rv_table.specs.Areas.{Shape, shape}
 use Rattle.rv_table.specs.Standing.{StandFrom}
 use Rattle.rv_table.proofs.Bytes.{run_join}
@@ -47,8 +47,8 @@ use Rattle.odc_core.specs.Frames.{touched_always, stack_end, store_low, heap_low
 use Rattle.odc_core.specs.Program.{first_memory, first_byte}
 use Rattle.odc_mid.specs.Run.{first_config, run_main, mid}
 use Rattle.odc_mid.specs.Well.{IsWell, IsMain}
-use Rattle.rv_emit.specs.Code.{code_of}
-use Rattle.rv_emit.specs.Layout.{text_range, memory_at, memory_ranges, image_of, AllHaveSlots, IsShort, factor}
+use Rattle.rv_emit.specs.Layout.{text_range, memory_at, memory_ranges, image_with, AllHaveSlots, factor}
+use Rattle.rv_emit.specs.Emitted.{IsEmitted, IsKept}
 use Rattle.rv_emit.specs.Encoded.{Mean, IsEncoded}
 use Rattle.rv_emit.proofs.Flat.{Is, There, layout}
 use Rattle.rv_emit.proofs.Ranges.{always_in, low_of, Region, store, heap, temp}
@@ -142,18 +142,21 @@ bytes_of_text : (words : List ℕ) → AreBytes (flat_map (to_le_bytes w32) word
 bytes_of_text [] = tt
 bytes_of_text (v ∷ words) = (omega arith, (omega arith, (omega arith, (omega arith, bytes_of_text words))))
 
-module _ (w : Whole) (well : IsWell w) (slots : AllHaveSlots w.procedures) (short : IsShort w) (text : List ℕ) (encoded : IsEncoded text (code_of w)) (input : List ℕ) (given : AreBytes input) where
+module _ (w : Whole) (well : IsWell w) (slots : AllHaveSlots w.procedures) (entries : ℕ → ℕ) (text : List ℕ) (sites : List Site) (calls : List ℕ) (e : IsEmitted w entries text sites calls) (input : List ℕ) (given : AreBytes input) where
   abbrev m : Setting
-  m = setting w well short
+  m = setting w entries text sites calls e well
 
   abbrev b : Built m w
-  b = built w well slots short
+  b = built w entries text sites calls e well slots
+
+  encoded : IsEncoded text e.code
+  encoded = e.encoded
 
   abbrev f0 : ℕ → ℕ
   f0 = first_bytes text w.store
 
-  count : length text ≡ 4 * length (code_of w)
-  count = length_encoded text (code_of w) encoded
+  count : length text ≡ 4 * length e.code
+  count = length_encoded text e.code encoded
 
   low_text : length text ≤ 0x4fff_0000
   low_text = omega (arith, count, m.short)
@@ -167,12 +170,12 @@ module _ (w : Whole) (well : IsWell w) (slots : AllHaveSlots w.procedures) (shor
   text_there : run f0 text_start (length text) ≡ text
   text_there = run_apart (written (λ _. 0) text_start text) store_low w.store text_start (length text) (inl (omega (arith, low_text))) ∙ run_written (λ _. 0) text_start text
 
-  stands_there : StandFrom f0 text_start (code_of w)
+  stands_there : StandFrom f0 text_start e.code
   stands_there =
       let long : 4 * length encoded.words ≡ length text = sym (length_words encoded.words) ∙ ap length (sym encoded.bytes) in
-      stand_mean encoded.words (code_of w) f0 text_start encoded.mean (ap (run f0 text_start) long ∙ text_there ∙ encoded.bytes)
+      stand_mean encoded.words e.code f0 text_start encoded.mean (ap (run f0 text_start) long ∙ text_there ∙ encoded.bytes)
 
-  begins : Is m (started (image_of w text) input) text_start (first_flat text w.store input)
+  begins : Is m (started (image_with w text sites calls) input) text_start (first_flat text w.store input)
   begins = record {
     pc = refl;
     regs = record { count = no_registers.count; each = no_registers.each };
@@ -319,7 +322,7 @@ module _ (w : Whole) (well : IsWell w) (slots : AllHaveSlots w.procedures) (shor
     begun : Begun
     begun =
         let a0 : Flat = first_flat text w.store input in
-        let entry : ℕ = entry_of w w.main in
+        let entry : ℕ = entries w.main in
         let built_main : IsBuilt m w w.main p = b.procs w.main p found in
         let code = b.start in
         let tail : List Inst = Jalr 1 6 (pos 0) ∷ Addi 10 0 (pos 0) ∷ Addi 17 0 (pos 93) ∷ Ecall ∷ [] in
@@ -342,11 +345,11 @@ module _ (w : Whole) (well : IsWell w) (slots : AllHaveSlots w.procedures) (shor
         let s3 : Reaches m text_start a0 7 entry a4 = joined m w b s2 four in
         record { regs = five.regs; sp = five.sp; reaches = joined m w b s3 five.reaches }
 
-    pub keeps_main : p.parameters ≡ 0 → KeepsOn (factor w) 18 (λ (x : Entry ℕ ℕ). x) (mid_from m w b (first_config w p)) (runs_from m w b (started (image_of w text))) input
+    pub keeps_main : p.parameters ≡ 0 → KeepsOn (factor w) 18 (λ (x : Entry ℕ ℕ). x) (mid_from m w b (first_config w p)) (runs_from m w b (started (image_with w text sites calls))) input
     keeps_main none =
         let x : Begun = begun in
-        let there : There m (started (image_of w text) input) 18 (place_of m w b w.main p 0) (record { regs = x.regs; mem = f1; log = []; input = input; taken = 0 }) = x.reaches.by (started (image_of w text) input) begins in
-        keeps_from m w b (first_config w p) (started (image_of w text)) input there.last 18 there.leads
+        let there : There m (started (image_with w text sites calls) input) 18 (place_of m w b w.main p 0) (record { regs = x.regs; mem = f1; log = []; input = input; taken = 0 }) = x.reaches.by (started (image_with w text sites calls) input) begins in
+        keeps_from m w b (first_config w p) (started (image_with w text sites calls)) input there.last 18 there.leads
         (record {
           place = place_of m w b w.main p 0;
           flat = record { regs = x.regs; mem = f1; log = []; input = input; taken = 0 };
@@ -354,14 +357,14 @@ module _ (w : Whole) (well : IsWell w) (slots : AllHaveSlots w.procedures) (shor
           tied = first_tied none x.regs x.sp;
         })
 
--- the image of a program keeps its runs, on each input of bytes
-pub keeps : (w : Whole) → IsWell w → AllHaveSlots w.procedures → IsShort w → (text : List ℕ) → IsEncoded text (code_of w) → (input : List ℕ) → AreBytes input →
-    KeepsOn (factor w) 18 (λ (x : Entry ℕ ℕ). x) (mid (entry_of w) w) (machine (image_of w text)) input
-keeps w well slots short text encoded input given = by (slice_get w.procedures w.main) refl well.main
+-- an image in which each procedure is emitted keeps the runs of the program, on each input of bytes
+pub keeps : (w : Whole) → IsWell w → AllHaveSlots w.procedures → (entries : ℕ → ℕ) (text : List ℕ) (sites : List Site) (calls : List ℕ) → IsEmitted w entries text sites calls →
+    IsKept entries w (image_with w text sites calls)
+keeps w well slots entries text sites calls e input given = by (slice_get w.procedures w.main) refl well.main
   where
-    by : (o : Option Proc) → slice_get w.procedures w.main ≡ o → IsMain o → KeepsOn (factor w) 18 (λ (x : Entry ℕ ℕ). x) (mid (entry_of w) w) (machine (image_of w text)) input
-    by None e none = absurd none
-    by (Some p) e none =
-        let P : Option Proc → Type 0 = λ o. KeepsOn (factor w) 18 (λ (x : Entry ℕ ℕ). x) (run_main (world_of (entry_of w) w) w o) (machine (image_of w text)) input in
-        let r = keeps_main w well slots short text encoded input given p e none in
-        subst P (sym e) (record { goes = r.goes; far = r.far; sound = r.sound; cheap = r.cheap })
+    by : (o : Option Proc) → slice_get w.procedures w.main ≡ o → IsMain o → KeepsOn (factor w) 18 (λ (x : Entry ℕ ℕ). x) (mid entries w) (machine (image_with w text sites calls)) input
+    by None q none = absurd none
+    by (Some p) q none =
+        let P : Option Proc → Type 0 = λ o. KeepsOn (factor w) 18 (λ (x : Entry ℕ ℕ). x) (run_main (world_of entries w) w o) (machine (image_with w text sites calls)) input in
+        let r = keeps_main w well slots entries text sites calls e input given p q none in
+        subst P (sym q) (record { goes = r.goes; far = r.far; sound = r.sound; cheap = r.cheap })

@@ -18,7 +18,7 @@ use Rattle.odc_mid.specs.declared.tree.MidStep.TheVariants.{Call, CallValue}
 use Rattle.odc_mid.specs.Tree.{Proc, Whole}
 use Rattle.odc_mid.specs.Run.{Config}
 use Rattle.odc_mid.specs.Well.{Known, set_by, ways_of, AllLead, Leads, SetBelow}
-use Rattle.rv_emit.specs.Code.{entry_of, slot, load_slot, store_slot, number_code}
+use Rattle.rv_emit.specs.Code.{slot, load_slot, store_slot, number_code}
 use Rattle.rv_emit.proofs.Flat.{Setting, Flat, reg, set, At, Stands, stands_parts, Reaches}
 use Rattle.rv_emit.proofs.Steps.{putting, jumps}
 use Rattle.rv_emit.proofs.Numbers.{number_sim}
@@ -200,7 +200,7 @@ module _ (m : Setting) (w : Whole) (b : Built m w) where
 
   pub call_to : (bound from : ℕ) (a0 : Flat) (c : Config) (place : ℕ) (a : Flat) (t : Tied m w b c place a) (s : MidStep) (to : ℕ) (ts : List ℕ) (f : ℕ) (p : Proc) (found : slice_get w.procedures f ≡ Some p) →
       slice_get c.here.steps c.here.next ≡ Some s → set_by s ≡ Some to → ways_of c.here.next s ≡ suc c.here.next ∷ [] → p.parameters ≡ length ts →
-      AreKnown (known_in m w b t.f t.p t.act.found) c.here.next ts → (d : ℕ) (h g : ℕ → ℕ) (ret : ℕ) → Reaches m from a0 d (entry_of w f) (record a { regs = h; mem = g }) → h 2 ≡ c.here.low → h 1 ≡ ret →
+      AreKnown (known_in m w b t.f t.p t.act.found) c.here.next ts → (d : ℕ) (h g : ℕ → ℕ) (ret : ℕ) → Reaches m from a0 d (m.entries f) (record a { regs = h; mem = g }) → h 2 ≡ c.here.low → h 1 ≡ ret →
       ((x : ℕ) → g x < 256) → (0x7800_0000 + 8 * length ts ≤ c.here.low → (x : ℕ) → c.here.low ≤ x → g x ≡ a.mem x) →
       (0x7800_0000 + 8 * length ts ≤ c.here.low → (x : ℕ) → x < c.here.low - 8 * length ts → g x ≡ a.mem x) →
       (0x7800_0000 + 8 * length ts ≤ c.here.low → (k v : ℕ) → slice_get (map c.here.temps ts) k ≡ Some v → run g (c.here.low - 8 * (k + 1)) 8 ≡ to_le_bytes w64 v) →
@@ -217,8 +217,8 @@ module _ (m : Setting) (w : Whole) (b : Built m w) where
       by true q =
           let room : 0x7800_0000 + p.frame ≤ c.here.low = grind (arith, nat_tests) in
           let less : 0x7800_0000 + 8 * length ts ≤ c.here.low = omega (arith, room, facts.0) in
-          let x : Entered m w b (entry_of w f) (place_of m w b f p 0) (record a { regs = h; mem = g }) c.here.low p.frame ret =
-          enter_sim m w b (entry_of w f) (place_of m w b f p 0) (record a { regs = h; mem = g }) c.here.low p.frame ret (b.procs f p found).has.site (b.procs f p found).has.enter sp ra
+          let x : Entered m w b (m.entries f) (place_of m w b f p 0) (record a { regs = h; mem = g }) c.here.low p.frame ret =
+          enter_sim m w b (m.entries f) (place_of m w b f p 0) (record a { regs = h; mem = g }) c.here.low p.frame ret (b.procs f p found).has.site (b.procs f p found).has.enter sp ra
           (omega (arith, t.act.high, t.act.top)) facts.1.1 facts.1.0 q in
           record {
             by = record {
@@ -232,8 +232,8 @@ module _ (m : Setting) (w : Whole) (b : Built m w) where
             };
           }
       by false q =
-          let x : Refused m w b (entry_of w f) (record a { regs = h; mem = g }) p.at =
-          refuse_sim m w b (entry_of w f) (place_of m w b f p 0) (record a { regs = h; mem = g }) c.here.low p.frame (b.procs f p found).has.site p.at (b.procs f p found).has.enter sp facts.1.1
+          let x : Refused m w b (m.entries f) (record a { regs = h; mem = g }) p.at =
+          refuse_sim m w b (m.entries f) (place_of m w b f p 0) (record a { regs = h; mem = g }) c.here.low p.frame (b.procs f p found).has.site p.at (b.procs f p found).has.enter sp facts.1.1
           (b.procs f p found).has.small (b.procs f p found).has.told q in
           record {
             by = record {
@@ -278,15 +278,15 @@ module _ (m : Setting) (w : Whole) (b : Built m w) where
       let k : Takes w.procedures f (length ts) = takes_proc w.procedures f (length ts) x.well.named in
       let end : ℕ = place_of m w b t.f t.p (c.here.next + 1) in
       let last : List Inst = Jalr 1 6 (pos 0) ∷ store_slot t.p.frame 10 to in
-      let q = stands_parts m.code place (pass_code t.p.frame ts) (number_code 6 (entry_of w f) ++ last) end x.has.code in
-      let r = stands_parts m.code q.0 (number_code 6 (entry_of w f)) last end q.2 in
+      let q = stands_parts m.code place (pass_code t.p.frame ts) (number_code 6 (m.entries f) ++ last) end x.has.code in
+      let r = stands_parts m.code q.0 (number_code 6 (m.entries f)) last end q.2 in
       let y : Sent m w b place q.0 c a a.regs ts = pass_sim m w b c place a t ts place q.0 a.regs q.1 x.well.ready refl (few_arguments f k.proc k.found (length ts) k.count) in
       let b0 : Flat = record a { regs = y.regs; mem = y.mem } in
-      let b1 : Flat = putting b0 6 (entry_of w f) in
+      let b1 : Flat = putting b0 6 (m.entries f) in
       let built : IsBuilt m w f k.proc = b.procs f k.proc k.found in
-      let one : Reaches m q.0 b0 4 r.0 b1 = number_sim m q.0 r.0 b0 6 (entry_of w f) r.1 (lit< tt) (lit< tt) built.entry in
-      let two : Reaches m r.0 b1 1 (entry_of w f) (putting b1 1 (r.0 + 4)) =
-      jumps m r.0 b1 1 6 (pos 0) (entry_of w f) r.2.0 refl (lit< tt) (lit< tt) (jump_target (entry_of w f) (omega (arith, built.entry)) built.even) built.even in
+      let one : Reaches m q.0 b0 4 r.0 b1 = number_sim m q.0 r.0 b0 6 (m.entries f) r.1 (lit< tt) (lit< tt) built.entry in
+      let two : Reaches m r.0 b1 1 (m.entries f) (putting b1 1 (r.0 + 4)) =
+      jumps m r.0 b1 1 6 (pos 0) (m.entries f) r.2.0 refl (lit< tt) (lit< tt) (jump_target (m.entries f) (omega (arith, built.entry)) built.even) built.even in
       let O : Option Proc → Type 0 = λ o. Sim m w b (32 + 14 * length ts) place a (calls to o (map c.here.temps ts) c) in
       subst O (sym k.found)
       (call_to (32 + 14 * length ts) place a c place a t s to ts f k.proc k.found e refl refl k.count x.well.ready (y.steps + 4 + 1) (putting b1 1 (r.0 + 4)).regs y.mem (r.0 + 4)
@@ -311,7 +311,7 @@ module _ (m : Setting) (w : Whole) (b : Built m w) where
       by false q h rest = rest h
 
   pub plain_sim : (c : Config) (place : ℕ) (a : Flat) (t : Tied m w b c place a) (to target : ℕ) (arguments : _) (f : ℕ) (p : Proc) → slice_get c.here.steps c.here.next ≡ Some (CallValue to target arguments false) →
-      slice_get w.procedures f ≡ Some p → p.parameters ≡ length arguments.items → entry_of w f ≡ c.here.temps target →
+      slice_get w.procedures f ≡ Some p → p.parameters ≡ length arguments.items → m.entries f ≡ c.here.temps target →
       Sim m w b (32 + 14 * length arguments.items) place a (calls to (Some p) (map c.here.temps arguments.items) c)
   plain_sim c place a t to target arguments f p e found count word_is =
       let s : MidStep = CallValue to target arguments false in
@@ -326,8 +326,8 @@ module _ (m : Setting) (w : Whole) (b : Built m w) where
       let y : Sent m w b q.0 r.0 c a h ts = pass_sim m w b c place a t ts q.0 r.0 h r.1 x.well.ready.1 refl (few_arguments f p found (length ts) count) in
       let b0 : Flat = record a { regs = y.regs; mem = y.mem } in
       let built : IsBuilt m w f p = b.procs f p found in
-      let target_is : address_from (reg b0.regs 9) (pos 0) / 2 * 2 ≡ entry_of w f =
-      ap (λ (z : ℕ). address_from z (pos 0) / 2 * 2) (y.kept.nine ∙ sym word_is) ∙ jump_target (entry_of w f) (omega (arith, built.entry)) built.even in
-      let two : Reaches m r.0 b0 1 (entry_of w f) (putting b0 1 (r.0 + 4)) = jumps m r.0 b0 1 9 (pos 0) (entry_of w f) r.2.0 refl (lit< tt) (lit< tt) target_is built.even in
+      let target_is : address_from (reg b0.regs 9) (pos 0) / 2 * 2 ≡ m.entries f =
+      ap (λ (z : ℕ). address_from z (pos 0) / 2 * 2) (y.kept.nine ∙ sym word_is) ∙ jump_target (m.entries f) (omega (arith, built.entry)) built.even in
+      let two : Reaches m r.0 b0 1 (m.entries f) (putting b0 1 (r.0 + 4)) = jumps m r.0 b0 1 9 (pos 0) (m.entries f) r.2.0 refl (lit< tt) (lit< tt) target_is built.even in
       call_to (32 + 14 * length ts) place a c place a t s to ts f p found e refl refl count x.well.ready.1 (6 + y.steps + 1) (putting b0 1 (r.0 + 4)).regs y.mem (r.0 + 4)
       (joined m w b (joined m w b front y.reaches) two) (y.kept.two ∙ t.sp) refl y.bytes y.above y.below y.held (return_place r.0 (Jalr 1 9 (pos 0)) r.2.0) r.2.1 (omega (arith, y.few))

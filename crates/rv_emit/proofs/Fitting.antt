@@ -1,12 +1,12 @@
 -- The fields of the instructions have their widths.
-use Rattle.std.proofs.Common.{◌≡◌, ℕ, suc, ◌+◌, ◌*◌, ◌/◌, ◌%◌, ◌^◌, ◌<◌, ◌≤◌, Bool, true, false, List, [], ◌∷◌, ◌++◌, length, refl, arith, lit<}
-use Rattle.std.specs.Prelude.{pos, negsuc, slice_get, get_or}
+use Rattle.std.proofs.Common.{◌≡◌, ℕ, suc, ◌+◌, ◌*◌, ◌/◌, ◌%◌, ◌^◌, ◌<◌, ◌≤◌, Bool, true, false, cond, List, [], ◌∷◌, ◌++◌, length, refl, arith, lit<}
+use Rattle.std.specs.Prelude.{pos, negsuc, nat_lt, slice_get, get_or}
 use Rattle.odc_text.specs.Check.{number_of}
 use Rattle.odc_text.specs.declared.check.Check.{Check}
 use Rattle.odc_text.specs.declared.check.Check.TheVariants.{Index, Slice, Division, Assertion, Nil, Stack, Assert, Panic, Length}
 use Rattle.rv_table.specs.Table.{Fits}
 use Rattle.rv_table.specs.declared.inst.Inst.{Inst}
-use Rattle.rv_table.specs.declared.inst.Inst.TheVariants.{Jalr, Beq, Bne, Bgeu, Ld, Sd, Addi, Slli, Add, Sub, Ecall, Ebreak}
+use Rattle.rv_table.specs.declared.inst.Inst.TheVariants.{Auipc, Jalr, Beq, Bne, Bgeu, Ld, Sd, Addi, Slli, Add, Sub, Ecall, Ebreak}
 use Rattle.odc_core.specs.Frames.{stack_low}
 use Rattle.odc_core.specs.declared.tree.Width.{Width}
 use Rattle.odc_core.specs.declared.tree.Width.TheVariants.{Byte, Half, Word, Double}
@@ -25,18 +25,19 @@ use Rattle.odc_mid.specs.declared.tree.SystemCall.TheVariants.{Read, Write, Exit
 use Rattle.odc_mid.specs.declared.tree.MidStep.{MidStep}
 use Rattle.odc_mid.specs.declared.tree.MidStep.TheVariants.{Const, Address, Move, Unary, Binary, Compare, Load, Store, Jump, Branch, Call, CallValue, Return, Check as CheckStep, System}
 use Rattle.odc_mid.specs.Tree.{Proc, Whole}
-use Rattle.odc_mid.specs.Well.{IsWell, AllWell, IsStep, AreSteps, Names, Known, names_in}
-use Rattle.rv_emit.specs.Code.{Around, around_of, entry_of, text_start, start_size, number_code, chunk_code, word_code, slot, load_slot, store_slot, offset_of, named_code, jump_code, guard_code, arguments_code, pass_code, registers_code, value_code, return_code, break_code, descriptor_number, system_code, unary_code, binary_code, compare_code, load_code, store_code, step_code, step_sites, steps_code, steps_size, enter_code, proc_code, proc_size, proc_sites, procs_code, procs_size, start_code, code_of}
-use Rattle.rv_emit.specs.Layout.{IsPlaced, CanEmit, AllCanEmit, AllHaveSlots, IsShort}
+use Rattle.odc_mid.specs.Well.{IsWellProc, IsStep, AreSteps, Names, Known, names_in}
+use Rattle.rv_emit.specs.Code.{Around, number_code, chunk_code, word_code, slot, load_slot, store_slot, offset_of, named_code, distance, way_code, jump_code, guard_code, arguments_code, pass_code, registers_code, value_code, return_code, break_code, descriptor_number, system_code, unary_code, binary_code, compare_code, load_code, store_code, step_code, step_size, step_sites, steps_code, steps_size, enter_code, enter_size, proc_size, start_code}
+use Rattle.rv_emit.specs.Blocks.{bare, bare_code}
+use Rattle.rv_emit.specs.Layout.{HasSlots, IsPlaced, CanEmit, AllCanEmit}
 use Rattle.rv_emit.specs.Encoded.{AllFit}
-use Rattle.rv_emit.proofs.Placed.{few_sites, few_steps_sites}
-use Rattle.rv_emit.proofs.Able.{steps_can, entry_low}
+use Rattle.rv_emit.proofs.Placed.{few_sites}
+use Rattle.rv_emit.proofs.Able.{steps_can}
 
-fit_both : (xs ys : List Inst) → AllFit xs → AllFit ys → AllFit (xs ++ ys)
+pub fit_both : (xs ys : List Inst) → AllFit xs → AllFit ys → AllFit (xs ++ ys)
 fit_both [] ys h k = k
 fit_both (x ∷ xs) ys h k = (h.0, fit_both xs ys h.1 k)
 
-number_fit : (rd v : ℕ) → rd < 32 → v < 2 ^ 31 → AllFit (number_code rd v)
+pub number_fit : (rd v : ℕ) → rd < 32 → v < 2 ^ 31 → AllFit (number_code rd v)
 number_fit rd v h k = (
   (h, omega arith),
   ((h, h, omega arith), ((h, h, omega arith), ((h, h, omega arith), tt))),
@@ -106,14 +107,27 @@ store_fit Double = (lit< tt, lit< tt, omega arith)
 
 -- ---- addresses, jumps and calls
 
-named_fit : (around : Around) (k : ℕ) (of : Named) → IsPlaced around k of → AllFit (named_code around of)
-named_fit around k (OfVariable x) h =
-    fit_both (number_code 6 (offset_of (slice_get around.variables x))) (Add 6 6 2 ∷ []) (number_fit 6 (offset_of (slice_get around.variables x)) (lit< tt) h.1) ((lit< tt, lit< tt, lit< tt), tt)
-named_fit around k (Stored n) h = number_fit 6 (get_or around.addresses n 0) (lit< tt) h.1
-named_fit around k (Procedure f) h = number_fit 6 (around.entries f) (lit< tt) h.1
+-- the data lie below 2^31, and so do the entries
+record AreLow (around : Around) : Type 0 where
+  addresses : (n : ℕ) → get_or around.addresses n 0 < 2 ^ 31
+  entries : (f : ℕ) → around.entries f < 2 ^ 31
 
-jump_fit : (place : ℕ) → place < 2 ^ 31 → AllFit (jump_code place)
-jump_fit place h = fit_both (number_code 6 place) (Jalr 0 6 (pos 0) ∷ []) (number_fit 6 place (lit< tt) h) ((lit< tt, lit< tt, omega arith), tt)
+named_fit : (around : Around) (of : Named) → AreLow around → IsPlaced around of → AllFit (named_code around of)
+named_fit around (OfVariable x) low h =
+    fit_both (number_code 6 (offset_of (slice_get around.variables x))) (Add 6 6 2 ∷ []) (number_fit 6 (offset_of (slice_get around.variables x)) (lit< tt) h.1) ((lit< tt, lit< tt, lit< tt), tt)
+named_fit around (Stored n) low h = number_fit 6 (get_or around.addresses n 0) (lit< tt) (low.addresses n)
+named_fit around (Procedure f) low h = number_fit 6 (around.entries f) (lit< tt) (low.entries f)
+
+way_fit : (z : Bool) → Fits (cond z (Sub 6 6 7) (Add 6 6 7))
+way_fit true = (lit< tt, lit< tt, lit< tt)
+way_fit false = (lit< tt, lit< tt, lit< tt)
+
+jump_fit : (from to : ℕ) → from < 2 ^ 31 → to < 2 ^ 31 → AllFit (jump_code from to)
+jump_fit from to h k = (
+  (lit< tt, omega arith),
+  fit_both (number_code 7 (distance from to)) (way_code from to ∷ Jalr 0 6 (pos 0) ∷ []) (number_fit 7 (distance from to) (lit< tt) (omega (arith, h, k)))
+      (way_fit (nat_lt to from), ((lit< tt, lit< tt, omega arith), tt)),
+)
 
 guard_fit : (n : ℕ) → 8 * n < 2 ^ 31 → AllFit (guard_code n)
 guard_fit n h =
@@ -219,41 +233,43 @@ abbrev pub HasWord : MidStep → Type 0
 HasWord (Const to v) = v < 2 ^ 64
 HasWord _ = Unit {0}
 
-step_fit : (around : Around) (n k site : ℕ) (s : MidStep) → CanEmit around n k s → HasWord s → around.frame ≤ 2 ^ 24 → site < 2 ^ 31 → AllFit (step_code around site s)
-step_fit around n k site (Const to v) h word fits small = fit_both (word_code 6 v) (store_slot around.frame 6 to) (word_fit 6 v (lit< tt) word) (one_store around.frame to fits)
-step_fit around n k site (Address to of) h word fits small = fit_both (named_code around of) (store_slot around.frame 6 to) (named_fit around k of h.1) (one_store around.frame to fits)
-step_fit around n k site (Move to u) h word fits small = one_load around.frame u (store_slot around.frame 6 to) fits (one_store around.frame to fits)
-step_fit around n k site (Unary to op u) h word fits small =
+step_fit : (around : Around) (n at site : ℕ) (s : MidStep) → AreLow around → CanEmit around n s → HasWord s → around.frame ≤ 2 ^ 24 → site < 2 ^ 31 → at + 4 * step_size s < 2 ^ 31 → AllFit (step_code around at site s)
+step_fit around n at site (Const to v) low h word fits small there = fit_both (word_code 6 v) (store_slot around.frame 6 to) (word_fit 6 v (lit< tt) word) (one_store around.frame to fits)
+step_fit around n at site (Address to of) low h word fits small there = fit_both (named_code around of) (store_slot around.frame 6 to) (named_fit around of low h.1) (one_store around.frame to fits)
+step_fit around n at site (Move to u) low h word fits small there = one_load around.frame u (store_slot around.frame 6 to) fits (one_store around.frame to fits)
+step_fit around n at site (Unary to op u) low h word fits small there =
     one_load around.frame u (unary_code op ++ store_slot around.frame 6 to) fits (fit_both (unary_code op) (store_slot around.frame 6 to) (unary_fit op) (one_store around.frame to fits))
-step_fit around n k site (Binary to op u v) h word fits small = two_loads around.frame u v (binary_code op ∷ store_slot around.frame 6 to) fits (binary_fit op, one_store around.frame to fits)
-step_fit around n k site (Compare to op u v) h word fits small =
+step_fit around n at site (Binary to op u v) low h word fits small there = two_loads around.frame u v (binary_code op ∷ store_slot around.frame 6 to) fits (binary_fit op, one_store around.frame to fits)
+step_fit around n at site (Compare to op u v) low h word fits small there =
     two_loads around.frame u v (compare_code op ++ store_slot around.frame 6 to) fits (fit_both (compare_code op) (store_slot around.frame 6 to) (compare_fit op) (one_store around.frame to fits))
-step_fit around n k site (Load to width u) h word fits small = one_load around.frame u (load_code width ∷ store_slot around.frame 6 to) fits (load_fit width, one_store around.frame to fits)
-step_fit around n k site (Store width u v) h word fits small = two_loads around.frame u v (store_code width ∷ []) fits (store_fit width, tt)
-step_fit around n k site (Jump label) h word fits small = jump_fit (around.place label) h.1
-step_fit around n k site (Branch u label) h word fits small =
-    one_load around.frame u (Beq 6 0 (pos 24) ∷ jump_code (around.place label)) fits ((lit< tt, lit< tt, (omega arith, refl)), jump_fit (around.place label) h.1.1)
-step_fit around n k site (Call to f arguments) h word fits small =
+step_fit around n at site (Load to width u) low h word fits small there = one_load around.frame u (load_code width ∷ store_slot around.frame 6 to) fits (load_fit width, one_store around.frame to fits)
+step_fit around n at site (Store width u v) low h word fits small there = two_loads around.frame u v (store_code width ∷ []) fits (store_fit width, tt)
+step_fit around n at site (Jump label) low h word fits small there = jump_fit at (around.place label) (omega (arith, there)) h.1
+step_fit around n at site (Branch u label) low h word fits small there =
+    one_load around.frame u (Beq 6 0 (pos 32) ∷ jump_code (at + 28) (around.place label)) fits ((lit< tt, lit< tt, (omega arith, refl)), jump_fit (at + 28) (around.place label) (omega (arith, there)) h.1.1)
+step_fit around n at site (Call to f arguments) low h word fits small there =
     let ts : List ℕ = arguments.items in
     let last : List Inst = Jalr 1 6 (pos 0) ∷ store_slot around.frame 10 to in
-    fit_both (pass_code around.frame ts) (number_code 6 (around.entries f) ++ last) (pass_fit around.frame ts fits h.1.0)
-    (fit_both (number_code 6 (around.entries f)) last (number_fit 6 (around.entries f) (lit< tt) h.1.1.1) (link_fit around.frame 6 to (lit< tt) fits))
-step_fit around n k site (CallValue to target arguments marked) h word fits small = value_fit around.frame to target arguments.items marked fits h.1
-step_fit around n k site (Return u) h word fits small = return_fit around.frame u fits
-step_fit around n k site (CheckStep u which source) h word fits small =
+    fit_both (pass_code around.frame ts) (number_code 6 (around.entries f) ++ last) (pass_fit around.frame ts fits h.1)
+    (fit_both (number_code 6 (around.entries f)) last (number_fit 6 (around.entries f) (lit< tt) (low.entries f)) (link_fit around.frame 6 to (lit< tt) fits))
+step_fit around n at site (CallValue to target arguments marked) low h word fits small there = value_fit around.frame to target arguments.items marked fits h.1
+step_fit around n at site (Return u) low h word fits small there = return_fit around.frame u fits
+step_fit around n at site (CheckStep u which source) low h word fits small there =
     one_load around.frame u (Bne 6 0 (pos 28) ∷ break_code which site) fits ((lit< tt, lit< tt, (omega arith, refl)), break_fit which site small)
-step_fit around n k site (System asked) h word fits small = system_fit around.frame asked fits
+step_fit around n at site (System asked) low h word fits small there = system_fit around.frame asked fits
 
 abbrev pub HaveWords : List MidStep → Type 0
 HaveWords [] = Unit {0}
 HaveWords (s ∷ ss) = HasWord s × HaveWords ss
 
-steps_fit : (around : Around) (n k site : ℕ) (ss : List MidStep) → AllCanEmit around n k ss → HaveWords ss → around.frame ≤ 2 ^ 24 → site + steps_size ss < 2 ^ 31 → AllFit (steps_code around site ss)
-steps_fit around n k site [] h words fits small = tt
-steps_fit around n k site (s ∷ ss) h words fits small =
+steps_fit : (around : Around) (n at site : ℕ) (ss : List MidStep) → AreLow around → AllCanEmit around n ss → HaveWords ss → around.frame ≤ 2 ^ 24 → site + steps_size ss < 2 ^ 31 → at + 4 * steps_size ss < 2 ^ 31 →
+    AllFit (steps_code around at site ss)
+steps_fit around n at site [] low h words fits small there = tt
+steps_fit around n at site (s ∷ ss) low h words fits small there =
     let next : ℕ = site + length (step_sites s) in
-    fit_both (step_code around site s) (steps_code around next ss) (step_fit around n k site s h.0 words.0 fits (omega (arith, small)))
-    (steps_fit around n k next ss h.1 words.1 fits (omega (arith, small, few_sites s)))
+    let behind : ℕ = at + 4 * step_size s in
+    fit_both (step_code around at site s) (steps_code around behind next ss) (step_fit around n at site s low h.0 words.0 fits (omega (arith, small)) (omega (arith, there)))
+    (steps_fit around n behind next ss low h.1 words.1 fits (omega (arith, small, few_sites s)) (omega (arith, there)))
 
 -- ---- procedures and the program
 
@@ -267,12 +283,7 @@ enter_fit frame site k h =
           (fit_both (number_code 6 frame) last (number_fit 6 frame (lit< tt) (omega (arith, k))) ((lit< tt, lit< tt, lit< tt), ((lit< tt, lit< tt, omega arith), tt))),
     )
 
-proc_fit : (around : Around) (n k site : ℕ) (p : Proc) → around.frame ≡ p.frame → AllCanEmit around n k p.steps → HaveWords p.steps → p.frame ≤ 2 ^ 24 → site + proc_size p < 2 ^ 31 → AllFit (proc_code around site p)
-proc_fit around n k site p same h words fits small =
-    fit_both (enter_code p.frame site) (steps_code around (site + 1) p.steps) (enter_fit p.frame site fits (omega (arith, small)))
-    (steps_fit around n k (site + 1) p.steps h words (omega (arith, same, fits)) (omega (arith, small)))
-
-start_fit : (entry : ℕ) → entry < 2 ^ 31 → AllFit (start_code entry)
+pub start_fit : (entry : ℕ) → entry < 2 ^ 31 → AllFit (start_code entry)
 start_fit entry h =
     let last : List Inst = Jalr 1 6 (pos 0) ∷ Addi 10 0 (pos 0) ∷ Addi 17 0 (pos 93) ∷ Ecall ∷ [] in (
       (lit< tt, lit< tt, omega arith),
@@ -303,17 +314,9 @@ steps_words names known i (s ∷ ss) h = (by s h.0.named, steps_words names know
     by (CheckStep u which source) h = tt
     by (System asked) h = tt
 
-procs_fit : (w : Whole) → IsWell w → IsShort w → (at site : ℕ) (ps : List Proc) → AllWell w ps → AllHaveSlots ps → at + 4 * procs_size ps < 2 ^ 31 → site + procs_size ps < 2 ^ 31 → AllFit (procs_code w at site ps)
-procs_fit w well short at site [] sane slots low small = tt
-procs_fit w well short at site (p ∷ ps) sane slots low small =
-    let next : ℕ = at + 4 * proc_size p in
-    let behind : ℕ = site + length (proc_sites p) in
-    fit_both (proc_code (around_of w at p) site p) (procs_code w next behind ps)
-    (proc_fit (around_of w at p) (length p.steps) (length w.procedures) site p refl (steps_can w well short at p sane.0 slots.0 (omega (arith, low))) (steps_words (names_in w p) sane.0.known 0 p.steps sane.0.steps) sane.0.fits (omega (arith, small)))
-    (procs_fit w well short next behind ps sane.1 slots.1 (omega (arith, low)) (omega (arith, small, few_steps_sites p.steps)))
-
--- the instructions of a sane program have fields of their widths
-pub code_fit : (w : Whole) → IsWell w → AllHaveSlots w.procedures → IsShort w → AllFit (code_of w)
-code_fit w well slots short =
-    fit_both (start_code (entry_of w w.main)) (procs_code w (text_start + 4 * start_size) 0 w.procedures) (start_fit (entry_of w w.main) (entry_low w short w.main))
-    (procs_fit w well short (text_start + 4 * start_size) 0 w.procedures well.procedures slots (omega (arith, short)) (omega (arith, short)))
+-- a block that stands nowhere yet
+pub bare_fit : (w : Whole) (p : Proc) → IsWellProc w p → HasSlots p → 4 * proc_size p < 2 ^ 31 → AllFit (bare_code p)
+bare_fit w p sane slots low =
+    fit_both (enter_code p.frame 0) (steps_code (bare p) (4 * enter_size) 1 p.steps) (enter_fit p.frame 0 sane.fits (lit< tt))
+    (steps_fit (bare p) (length p.steps) (4 * enter_size) 1 p.steps (record { addresses = λ n. lit< tt; entries = λ f. lit< tt }) (steps_can w p sane slots low) (steps_words (names_in w p) sane.known 0 p.steps sane.steps)
+    sane.fits (omega (arith, low)) (omega (arith, low)))

@@ -175,10 +175,11 @@ module _ (sites : List Site) (calls : List ℕ) where
         a.by (k + e) j (omega arith) ∙ ap (later d) (b.by k (k + e) refl) ∙ same_steps (ran sites calls k c'') ((ran sites calls k c'').steps + e + d) ((ran sites calls k c'').steps + (d + e)) (omega arith);
   }
 
--- ---- an image: its instructions, the size of its store, its sites and its calls
+-- ---- an image: its instructions, where each procedure begins, the size of its store, its sites and calls
 
 pub record Setting : Type 0 where
   pub code : List Inst
+  pub entries : ℕ → ℕ
   pub store_size : ℕ
   pub sites : List Site
   pub calls : List ℕ
@@ -362,13 +363,13 @@ module _ (m : Setting) where
       let unlisted : jumps_by_x5 inst && listed m.calls c.state.pc ≡ false = ap (λ (b : Bool). b && listed m.calls c.state.pc) plain in
       record { last = record c { state = s }; leads = one_leads m.sites m.calls c (record c { state = s }) (act_next m.sites m.calls c inst (fetches c place a inst at is) s unlisted e); is = is' }
 
-  -- an instruction that puts a value into a register
-  pub puts : (place : ℕ) (a : Flat) (inst : Inst) (rd v : ℕ) → At m.code place inst → jumps_by_x5 inst ≡ false → rd < 32 →
-      ((s : State) → Regs s a.regs → effect_of inst s ≡ Put rd v) → Reaches place a 1 (place + 4) (record a { regs = set a.regs rd v })
+  -- an instruction that puts a value into a register, which may depend on where it stands
+  pub puts_here : (place : ℕ) (a : Flat) (inst : Inst) (rd v : ℕ) → At m.code place inst → jumps_by_x5 inst ≡ false → rd < 32 →
+      ((s : State) → Regs s a.regs → s.pc ≡ place → effect_of inst s ≡ Put rd v) → Reaches place a 1 (place + 4) (record a { regs = set a.regs rd v })
   unfolding executed
-  puts place a inst rd v at plain small effect = record {
+  puts_here place a inst rd v at plain small effect = record {
     by = λ c is.
-        goes place (place + 4) a (record a { regs = set a.regs rd v }) inst c (put c.state rd v).1 at plain is (ap (λ (e : Effect). applied e c.state) (effect c.state is.regs))
+        goes place (place + 4) a (record a { regs = set a.regs rd v }) inst c (put c.state rd v).1 at plain is (ap (λ (e : Effect). applied e c.state) (effect c.state is.regs is.pc))
         (record {
           pc = next_is c place a inst at is;
           regs = (let r = regs_put c.state a.regs rd v small is.regs in record { count = r.count; each = r.each });
@@ -380,6 +381,10 @@ module _ (m : Setting) where
           taken = is.taken;
         });
   }
+
+  pub puts : (place : ℕ) (a : Flat) (inst : Inst) (rd v : ℕ) → At m.code place inst → jumps_by_x5 inst ≡ false → rd < 32 →
+      ((s : State) → Regs s a.regs → effect_of inst s ≡ Put rd v) → Reaches place a 1 (place + 4) (record a { regs = set a.regs rd v })
+  puts place a inst rd v at plain small effect = puts_here place a inst rd v at plain small (λ s r q. effect s r)
 
   -- a load
   pub loads : (place : ℕ) (a : Flat) (inst : Inst) (rd address value : ℕ) (kind : LoadKind) → At m.code place inst → jumps_by_x5 inst ≡ false → rd < 32 →

@@ -20,3 +20,8 @@ pub mod Tables
 pub mod Able
 pub mod Fitting
 pub mod Blocks
+pub mod Filling
+pub mod Linking
+pub mod Linkable
+pub mod Items
+pub mod Together

@@ -15,8 +15,9 @@ use Rattle.odc_mid.specs.declared.tree.MidStep.{MidStep}
 use Rattle.odc_mid.specs.declared.tree.MidStep.TheVariants.{Const, Address, Move, Unary, Binary, Compare, Load, Store, Jump, Branch, Call, CallValue, Return, Check as CheckStep, System}
 use Rattle.odc_mid.specs.Tree.{Proc, Whole}
 use Rattle.odc_mid.specs.Well.{IsWell, AllWell, IsWellProc}
-use Rattle.rv_emit.specs.Code.{number_code, load_slot, store_slot, text_start, Around, around_of, entry_of, step_code, step_size, step_sites, step_calls, steps_code, steps_size, steps_sites, steps_calls, size_before, enter_code, enter_size, proc_code, proc_size, proc_sites, procs_code, procs_size, procs_sites, procs_calls, procs_before, start_code, start_size, code_of, sites_of, calls_of, arguments_code, registers_code, registers_size, guard_code, pass_code}
-use Rattle.rv_emit.specs.Layout.{HasSlots, AllHaveSlots, IsShort}
+use Rattle.rv_emit.specs.Code.{number_code, load_slot, store_slot, text_start, Around, around_of, entry_of, step_code, step_size, step_sites, step_calls, steps_code, steps_size, steps_sites, steps_calls, size_before, enter_code, enter_size, proc_code, block_code, proc_size, proc_sites, procs_code, procs_size, procs_sites, procs_calls, procs_before, start_code, start_size, code_of, sites_of, calls_of, arguments_code, registers_code, registers_size, guard_code, pass_code}
+use Rattle.rv_emit.specs.Layout.{HasSlots, AllHaveSlots}
+use Rattle.rv_emit.specs.Emitted.{Becomes, IsEmitted}
 use Rattle.rv_emit.proofs.Flat.{Setting, Stands, stands_parts}
 use Rattle.rv_emit.proofs.Sims.{stands_long}
 use Rattle.rv_emit.proofs.Ties.{SitesAt, AreListed, HasStep, HasProc, Built}
@@ -27,7 +28,7 @@ arguments_long : (frame : ℕ) (ts : List ℕ) → length (arguments_code frame 
 arguments_long frame [] = refl
 arguments_long frame (t ∷ ts) = let rest : length (arguments_code frame ts) ≡ 8 * length ts = arguments_long frame ts in omega (arith, rest)
 
-pass_long : (frame : ℕ) (ts : List ℕ) (more : List Inst) → length (pass_code frame ts ++ more) ≡ 13 + 8 * length ts + length more
+pub pass_long : (frame : ℕ) (ts : List ℕ) (more : List Inst) → length (pass_code frame ts ++ more) ≡ 13 + 8 * length ts + length more
 pass_long frame ts more =
     omega (arith, length-append (pass_code frame ts) more, length-append (guard_code (length ts)) (arguments_code frame ts), arguments_long frame ts)
 
@@ -41,28 +42,28 @@ registers_long frame (a ∷ b ∷ c ∷ d ∷ e ∷ []) = refl
 registers_long frame (a ∷ b ∷ c ∷ d ∷ e ∷ f ∷ []) = refl
 registers_long frame (a ∷ b ∷ c ∷ d ∷ e ∷ f ∷ g ∷ ts) = refl
 
-step_long : (around : Around) (site : ℕ) (s : MidStep) → length (step_code around site s) ≡ step_size s
-step_long around site (Const to v) = refl
-step_long around site (Address to (OfVariable x)) = refl
-step_long around site (Address to (Stored n)) = refl
-step_long around site (Address to (Procedure f)) = refl
-step_long around site (Move to u) = refl
-step_long around site (Unary to Complement u) = refl
-step_long around site (Unary to SignByte u) = refl
-step_long around site (Unary to SignHalf u) = refl
-step_long around site (Unary to SignWord u) = refl
-step_long around site (Binary to op u v) = refl
-step_long around site (Compare to Equal u v) = refl
-step_long around site (Compare to Different u v) = refl
-step_long around site (Compare to Less u v) = refl
-step_long around site (Compare to Below u v) = refl
-step_long around site (Load to width u) = refl
-step_long around site (Store width u v) = refl
-step_long around site (Jump label) = refl
-step_long around site (Branch u label) = refl
-step_long around site (Call to f arguments) =
+pub step_long : (around : Around) (at site : ℕ) (s : MidStep) → length (step_code around at site s) ≡ step_size s
+step_long around at site (Const to v) = refl
+step_long around at site (Address to (OfVariable x)) = refl
+step_long around at site (Address to (Stored n)) = refl
+step_long around at site (Address to (Procedure f)) = refl
+step_long around at site (Move to u) = refl
+step_long around at site (Unary to Complement u) = refl
+step_long around at site (Unary to SignByte u) = refl
+step_long around at site (Unary to SignHalf u) = refl
+step_long around at site (Unary to SignWord u) = refl
+step_long around at site (Binary to op u v) = refl
+step_long around at site (Compare to Equal u v) = refl
+step_long around at site (Compare to Different u v) = refl
+step_long around at site (Compare to Less u v) = refl
+step_long around at site (Compare to Below u v) = refl
+step_long around at site (Load to width u) = refl
+step_long around at site (Store width u v) = refl
+step_long around at site (Jump label) = refl
+step_long around at site (Branch u label) = refl
+step_long around at site (Call to f arguments) =
     pass_long around.frame arguments.items (number_code 6 (around.entries f) ++ (Jalr 1 6 (pos 0) ∷ store_slot around.frame 10 to)) ∙ omega arith
-step_long around site (CallValue to target arguments true) =
+step_long around at site (CallValue to target arguments true) =
     let frame : ℕ = around.frame in
     let ts : List ℕ = arguments.items in
     let last : List Inst = Jalr 1 5 (pos 0) ∷ store_slot frame 10 to in
@@ -73,32 +74,37 @@ step_long around site (CallValue to target arguments true) =
       registers_long frame ts,
       pass_long frame ts last,
     )
-step_long around site (CallValue to target arguments false) =
+step_long around at site (CallValue to target arguments false) =
     let frame : ℕ = around.frame in
     let ts : List ℕ = arguments.items in
     let last : List Inst = Jalr 1 9 (pos 0) ∷ store_slot frame 10 to in
     omega (arith, length-append (load_slot frame 9 target) (pass_code frame ts ++ last), pass_long frame ts last)
-step_long around site (Return u) = refl
-step_long around site (CheckStep u which source) = refl
-step_long around site (System (Read to u v)) = refl
-step_long around site (System (Write d u v)) = refl
-step_long around site (System (Exit u)) = refl
+step_long around at site (Return u) = refl
+step_long around at site (CheckStep u which source) = refl
+step_long around at site (System (Read to u v)) = refl
+step_long around at site (System (Write d u v)) = refl
+step_long around at site (System (Exit u)) = refl
 
-steps_long : (around : Around) (site : ℕ) (ss : List MidStep) → length (steps_code around site ss) ≡ steps_size ss
-steps_long around site [] = refl
-steps_long around site (s ∷ ss) =
-    let rest : length (steps_code around (site + length (step_sites s)) ss) ≡ steps_size ss = steps_long around (site + length (step_sites s)) ss in
-    omega (arith, rest, step_long around site s, length-append (step_code around site s) (steps_code around (site + length (step_sites s)) ss))
+pub steps_long : (around : Around) (at site : ℕ) (ss : List MidStep) → length (steps_code around at site ss) ≡ steps_size ss
+steps_long around at site [] = refl
+steps_long around at site (s ∷ ss) =
+    let more : List Inst = steps_code around (at + 4 * step_size s) (site + length (step_sites s)) ss in
+    let rest : length more ≡ steps_size ss = steps_long around (at + 4 * step_size s) (site + length (step_sites s)) ss in
+    omega (arith, rest, step_long around at site s, length-append (step_code around at site s) more)
 
-pub proc_long : (around : Around) (site : ℕ) (p : Proc) → length (proc_code around site p) ≡ proc_size p
-proc_long around site p = omega (arith, steps_long around (site + 1) p.steps, length-append (enter_code p.frame site) (steps_code around (site + 1) p.steps))
+pub proc_long : (around : Around) (at site : ℕ) (p : Proc) → length (proc_code around at site p) ≡ proc_size p
+proc_long around at site p =
+    omega (arith, steps_long around (at + 4 * enter_size) (site + 1) p.steps, length-append (enter_code p.frame site) (steps_code around (at + 4 * enter_size) (site + 1) p.steps))
+
+pub block_long : (entries : ℕ → ℕ) (addresses : List ℕ) (at site : ℕ) (p : Proc) → length (block_code entries addresses at site p) ≡ proc_size p
+block_long entries addresses at site p = proc_long (around_of entries addresses at p) at site p
 
 procs_long : (w : Whole) (at site : ℕ) (ps : List Proc) → length (procs_code w at site ps) ≡ procs_size ps
 procs_long w at site [] = refl
 procs_long w at site (p ∷ ps) =
     let more : List Inst = procs_code w (at + 4 * proc_size p) (site + length (proc_sites p)) ps in
     let rest : length more ≡ procs_size ps = procs_long w (at + 4 * proc_size p) (site + length (proc_sites p)) ps in
-    omega (arith, rest, proc_long (around_of w at p) site p, length-append (proc_code (around_of w at p) site p) more)
+    omega (arith, rest, block_long (entry_of w) w.addresses at site p, length-append (block_code (entry_of w) w.addresses at site p) more)
 
 pub code_long : (w : Whole) → length (code_of w) ≡ start_size + procs_size w.procedures
 code_long w =
@@ -172,22 +178,25 @@ before_small (s ∷ ss) (suc i) = let rest : size_before ss i ≤ steps_size ss 
 
 -- ---- steps and procedures
 
-steps_placed : (m : Setting) (around : Around) (at end site : ℕ) (ss : List MidStep) → Stands m.code at (steps_code around site ss) end → SitesAt m.sites site (steps_sites ss) →
-    AreListed m.calls (steps_calls at ss) → site + steps_size ss < 2 ^ 31 → (i : ℕ) (s : MidStep) → slice_get ss i ≡ Some s → HasStep m around s (at + 4 * size_before ss i) (at + 4 * size_before ss (i + 1))
+steps_placed : (m : Setting) (around : Around) (at end site : ℕ) (ss : List MidStep) → Stands m.code at (steps_code around at site ss) end → SitesAt m.sites site (steps_sites ss) →
+    AreListed m.calls (steps_calls at ss) → site + length (steps_sites ss) < 2 ^ 31 → (i : ℕ) (s : MidStep) → slice_get ss i ≡ Some s → HasStep m around s (at + 4 * size_before ss i) (at + 4 * size_before ss (i + 1))
 steps_placed m around at end site [] stands sites calls small i s e = cc
 steps_placed m around at end site (x ∷ ss) stands sites calls small i s e = by i e (λ k q. steps_placed m around next end (site + length (step_sites x)) ss rest_code rest_sites.1 rest_calls.1 rest_small k s q)
   where
     next : ℕ
     next = at + 4 * step_size x
 
-    parts : (middle : ℕ) × Stands m.code at (step_code around site x) middle × Stands m.code middle (steps_code around (site + length (step_sites x)) ss) end
-    parts = stands_parts m.code at (step_code around site x) (steps_code around (site + length (step_sites x)) ss) end stands
+    more : List Inst
+    more = steps_code around (at + 4 * step_size x) (site + length (step_sites x)) ss
+
+    parts : (middle : ℕ) × Stands m.code at (step_code around at site x) middle × Stands m.code middle (steps_code around (at + 4 * step_size x) (site + length (step_sites x)) ss) end
+    parts = stands_parts m.code at (step_code around at site x) more end stands
 
     middle_is : parts.0 ≡ at + 4 * step_size x
-    middle_is = stands_long m.code at (step_code around site x) parts.0 parts.1 ∙ ap (λ (n : ℕ). at + 4 * n) (step_long around site x)
+    middle_is = stands_long m.code at (step_code around at site x) parts.0 parts.1 ∙ ap (λ (n : ℕ). at + 4 * n) (step_long around at site x)
 
-    rest_code : Stands m.code (at + 4 * step_size x) (steps_code around (site + length (step_sites x)) ss) end
-    rest_code = let P : ℕ → Type 0 = λ n. Stands m.code n (steps_code around (site + length (step_sites x)) ss) end in subst P middle_is parts.2
+    rest_code : Stands m.code (at + 4 * step_size x) (steps_code around (at + 4 * step_size x) (site + length (step_sites x)) ss) end
+    rest_code = let P : ℕ → Type 0 = λ n. Stands m.code n (steps_code around (at + 4 * step_size x) (site + length (step_sites x)) ss) end in subst P middle_is parts.2
 
     rest_sites : SitesAt m.sites site (step_sites x) × SitesAt m.sites (site + length (step_sites x)) (steps_sites ss)
     rest_sites = sites_parts m.sites site (step_sites x) (steps_sites ss) sites
@@ -195,8 +204,8 @@ steps_placed m around at end site (x ∷ ss) stands sites calls small i s e = by
     rest_calls : AreListed m.calls (step_calls at x) × AreListed m.calls (steps_calls (at + 4 * step_size x) ss)
     rest_calls = listed_parts m.calls (step_calls at x) (steps_calls (at + 4 * step_size x) ss) calls
 
-    rest_small : site + length (step_sites x) + steps_size ss < 2 ^ 31
-    rest_small = omega (arith, small, few_sites x)
+    rest_small : site + length (step_sites x) + length (steps_sites ss) < 2 ^ 31
+    rest_small = omega (arith, small, length-append (step_sites x) (steps_sites ss))
 
     here : HasStep m around x (at + 0) (at + 4 * (step_size x + 0))
     here =
@@ -211,6 +220,7 @@ steps_placed m around at end site (x ∷ ss) stands sites calls small i s e = by
     by zero e rest =
         let same : x ≡ s = cc in
         let P : MidStep → Type 0 = λ y. HasStep m around y (at + 0) (at + 4 * (step_size x + 0)) in
+        let Q : MidStep → Type 0 = λ y. HasStep m around s (at + 0) (at + 4 * (step_size x + 0)) in
         subst P same here
     by (suc i) e rest =
         let from : at + 4 * step_size x + 4 * size_before ss i ≡ at + 4 * (step_size x + size_before ss i) = omega arith in
@@ -221,79 +231,6 @@ steps_placed m around at end site (x ∷ ss) stands sites calls small i s e = by
         let P : ℕ → Type 0 = λ n. HasStep m around s n (at + 4 * size_before (x ∷ ss) (suc i + 1)) in
         let Q : ℕ → Type 0 = λ n. HasStep m around s (at + 4 * step_size x + 4 * size_before ss i) n in
         subst P from (subst Q to (rest i e))
-
-procs_placed : (m : Setting) (w : Whole) (at end site : ℕ) (ps : List Proc) → Stands m.code at (procs_code w at site ps) end → SitesAt m.sites site (procs_sites ps) → AreListed m.calls (procs_calls at ps) →
-    site + procs_size ps < 2 ^ 31 → at + 4 * procs_size ps < 2 ^ 31 → at % 4 ≡ 0 → (f : ℕ) (p : Proc) → slice_get ps f ≡ Some p → HasProc m w (at + 4 * procs_before ps f) p
-procs_placed m w at end site [] stands sites calls small low even f p e = cc
-procs_placed m w at end site (x ∷ ps) stands sites calls small low even f p e =
-    by f e (λ k q. procs_placed m w (at + 4 * proc_size x) end (site + length (proc_sites x)) ps rest_code rest_sites.1 rest_calls.1 rest_small (omega (arith, low)) (omega (arith, even)) k p q)
-  where
-    around : Around
-    around = around_of w at x
-
-    parts : (middle : ℕ) × Stands m.code at (proc_code (around_of w at x) site x) middle × Stands m.code middle (procs_code w (at + 4 * proc_size x) (site + length (proc_sites x)) ps) end
-    parts = stands_parts m.code at (proc_code (around_of w at x) site x) (procs_code w (at + 4 * proc_size x) (site + length (proc_sites x)) ps) end stands
-
-    middle_is : parts.0 ≡ at + 4 * proc_size x
-    middle_is = stands_long m.code at (proc_code (around_of w at x) site x) parts.0 parts.1 ∙ ap (λ (n : ℕ). at + 4 * n) (proc_long (around_of w at x) site x)
-
-    rest_code : Stands m.code (at + 4 * proc_size x) (procs_code w (at + 4 * proc_size x) (site + length (proc_sites x)) ps) end
-    rest_code = let P : ℕ → Type 0 = λ n. Stands m.code n (procs_code w (at + 4 * proc_size x) (site + length (proc_sites x)) ps) end in subst P middle_is parts.2
-
-    rest_sites : SitesAt m.sites site (proc_sites x) × SitesAt m.sites (site + length (proc_sites x)) (procs_sites ps)
-    rest_sites = sites_parts m.sites site (proc_sites x) (procs_sites ps) sites
-
-    rest_calls : AreListed m.calls (steps_calls (at + 4 * enter_size) x.steps) × AreListed m.calls (procs_calls (at + 4 * proc_size x) ps)
-    rest_calls = listed_parts m.calls (steps_calls (at + 4 * enter_size) x.steps) (procs_calls (at + 4 * proc_size x) ps) calls
-
-    rest_small : site + length (proc_sites x) + procs_size ps < 2 ^ 31
-    rest_small = omega (arith, small, few_steps_sites x.steps)
-
-    -- the entry and the steps
-    inner : (middle : ℕ) × Stands m.code at (enter_code x.frame site) middle × Stands m.code middle (steps_code (around_of w at x) (site + 1) x.steps) parts.0
-    inner = stands_parts m.code at (enter_code x.frame site) (steps_code (around_of w at x) (site + 1) x.steps) parts.0 parts.1
-
-    inner_is : inner.0 ≡ at + 4 * enter_size
-    inner_is = stands_long m.code at (enter_code x.frame site) inner.0 inner.1
-
-    body : Stands m.code (at + 4 * enter_size) (steps_code (around_of w at x) (site + 1) x.steps) parts.0
-    body = let P : ℕ → Type 0 = λ n. Stands m.code n (steps_code (around_of w at x) (site + 1) x.steps) parts.0 in subst P inner_is inner.2
-
-    body_sites : SitesAt m.sites (site + 1) (steps_sites x.steps)
-    body_sites = let P : ℕ → Type 0 = λ n. SitesAt m.sites n (steps_sites x.steps) in let one : suc site ≡ site + 1 = omega arith in subst P one rest_sites.0.1
-
-    step_there : (i : ℕ) (s : MidStep) → slice_get x.steps i ≡ Some s → HasStep m (around_of w at x) s (at + 4 * (enter_size + size_before x.steps i)) (at + 4 * (enter_size + size_before x.steps (i + 1)))
-    step_there i s q =
-        let from : at + 4 * enter_size + 4 * size_before x.steps i ≡ at + 4 * (enter_size + size_before x.steps i) = omega arith in
-        let to : at + 4 * enter_size + 4 * size_before x.steps (i + 1) ≡ at + 4 * (enter_size + size_before x.steps (i + 1)) = omega arith in
-        let P : ℕ → Type 0 = λ n. HasStep m (around_of w at x) s n (at + 4 * (enter_size + size_before x.steps (i + 1))) in
-        let Q : ℕ → Type 0 = λ n. HasStep m (around_of w at x) s (at + 4 * enter_size + 4 * size_before x.steps i) n in
-        subst P from (subst Q to (steps_placed m (around_of w at x) (at + 4 * enter_size) parts.0 (site + 1) x.steps body body_sites rest_calls.0 (omega (arith, small)) i s q))
-
-    here : HasProc m w at x
-    here = record {
-      site = site;
-      small = omega (arith, small);
-      enter = (let P : ℕ → Type 0 = λ n. Stands m.code at (enter_code x.frame site) n in subst P inner_is inner.1);
-      told = rest_sites.0.0;
-      steps = step_there;
-      low = λ i l. omega (arith, low, before_small x.steps i);
-      even = λ i. omega (arith, even);
-    }
-
-    by : (f : ℕ) → slice_get (x ∷ ps) f ≡ Some p → ((k : ℕ) → slice_get ps k ≡ Some p → HasProc m w (at + 4 * proc_size x + 4 * procs_before ps k) p) → HasProc m w (at + 4 * procs_before (x ∷ ps) f) p
-    by zero e rest =
-        let same : x ≡ p = cc in
-        let P : Proc → Type 0 = λ y. HasProc m w (at + 0) y in
-        let Q : ℕ → Type 0 = λ n. HasProc m w n x in
-        let none : at ≡ at + 0 = omega arith in
-        subst P same (subst Q none here)
-    by (suc f) e rest =
-        let from : at + 4 * proc_size x + 4 * procs_before ps f ≡ at + 4 * (proc_size x + procs_before ps f) = omega arith in
-        let Q : ℕ → Type 0 = λ n. HasProc m w n p in
-        subst Q from (rest f e)
-
--- ---- the whole program
 
 stands_all : (is front code : List Inst) → code ≡ front ++ is → Stands code (text_start + 4 * length front) is (text_start + 4 * (length front + length is))
 stands_all [] front code e = ap (λ (n : ℕ). text_start + 4 * n) (sym (add-zero (length front)))
@@ -306,13 +243,95 @@ stands_all (i ∷ is) front code e =
       subst P next (subst Q end (stands_all is (front ++ (i ∷ [])) code (e ∙ sym (append_assoc front (i ∷ []) is)))),
     )
 
-abbrev pub setting : (w : Whole) → IsWell w → IsShort w → Setting
-setting w well short = record {
-  code = code_of w;
+-- the block of a procedure that stands in the text, with its sites and calls
+module _ (m : Setting) (w : Whole) (at : ℕ) (p : Proc) (block : Becomes m.entries w.addresses at p m.code m.sites m.calls) (few : length m.sites < 2 ^ 31) where
+  abbrev around : Around
+  around = around_of m.entries w.addresses at p
+
+  abbrev site : ℕ
+  site = length block.sites_before
+
+  abbrev own : List Inst
+  own = block_code m.entries w.addresses at site p
+
+  own_long : length own ≡ proc_size p
+  own_long = block_long m.entries w.addresses at site p
+
+  inside : at + 4 * proc_size p ≤ text_start + 4 * length m.code
+  inside =
+      let whole : length m.code ≡ length block.before + (length own + length block.behind) =
+      ap length block.block ∙ length-append block.before (own ++ block.behind) ∙ ap (λ (n : ℕ). length block.before + n) (length-append own block.behind) in
+      omega (arith, whole, own_long, block.place)
+
+  parts : (middle : ℕ) × Stands m.code at (block_code m.entries w.addresses at (length block.sites_before) p) middle × Stands m.code middle block.behind (text_start + 4 * (length block.before + length (own ++ block.behind)))
+  parts =
+      let P : ℕ → Type 0 = λ n. Stands m.code n (own ++ block.behind) (text_start + 4 * (length block.before + length (own ++ block.behind))) in
+      stands_parts m.code at own block.behind (text_start + 4 * (length block.before + length (own ++ block.behind))) (subst P (sym block.place) (stands_all (own ++ block.behind) block.before m.code block.block))
+
+  told : SitesAt m.sites site (proc_sites p)
+  told =
+      let P : List Site → Type 0 = λ all. SitesAt all site (proc_sites p ++ block.sites_behind) in
+      (sites_parts m.sites site (proc_sites p) block.sites_behind (subst P (sym block.told) (sites_behind block.sites_before (proc_sites p ++ block.sites_behind)))).0
+
+  called : AreListed m.calls (steps_calls (at + 4 * enter_size) p.steps)
+  called =
+      let P : List ℕ → Type 0 = λ all. AreListed all (steps_calls (at + 4 * enter_size) p.steps ++ block.calls_behind) in
+      (listed_parts m.calls (steps_calls (at + 4 * enter_size) p.steps) block.calls_behind (subst P (sym block.called) (listed_behind block.calls_before (steps_calls (at + 4 * enter_size) p.steps ++ block.calls_behind)))).0
+
+  small : site + length (proc_sites p) < 2 ^ 31
+  small =
+      let whole : length m.sites ≡ site + (length (proc_sites p) + length block.sites_behind) =
+      ap length block.told ∙ length-append block.sites_before (proc_sites p ++ block.sites_behind) ∙ ap (λ (n : ℕ). site + n) (length-append (proc_sites p) block.sites_behind) in
+      omega (arith, whole, few)
+
+  -- the entry and the steps
+  inner : (middle : ℕ) × Stands m.code at (enter_code p.frame site) middle × Stands m.code middle (steps_code around (at + 4 * enter_size) (site + 1) p.steps) parts.0
+  inner = stands_parts m.code at (enter_code p.frame site) (steps_code around (at + 4 * enter_size) (site + 1) p.steps) parts.0 parts.1
+
+  inner_is : inner.0 ≡ at + 4 * enter_size
+  inner_is = stands_long m.code at (enter_code p.frame site) inner.0 inner.1
+
+  body : Stands m.code (at + 4 * enter_size) (steps_code around (at + 4 * enter_size) (site + 1) p.steps) parts.0
+  body = let P : ℕ → Type 0 = λ n. Stands m.code n (steps_code around (at + 4 * enter_size) (site + 1) p.steps) parts.0 in subst P inner_is inner.2
+
+  body_sites : SitesAt m.sites (site + 1) (steps_sites p.steps)
+  body_sites = let P : ℕ → Type 0 = λ n. SitesAt m.sites n (steps_sites p.steps) in let one : suc site ≡ site + 1 = omega arith in subst P one told.1
+
+  step_there : (i : ℕ) (s : MidStep) → slice_get p.steps i ≡ Some s → HasStep m around s (at + 4 * (enter_size + size_before p.steps i)) (at + 4 * (enter_size + size_before p.steps (i + 1)))
+  step_there i s q =
+      let from : at + 4 * enter_size + 4 * size_before p.steps i ≡ at + 4 * (enter_size + size_before p.steps i) = omega arith in
+      let to : at + 4 * enter_size + 4 * size_before p.steps (i + 1) ≡ at + 4 * (enter_size + size_before p.steps (i + 1)) = omega arith in
+      let P : ℕ → Type 0 = λ n. HasStep m around s n (at + 4 * (enter_size + size_before p.steps (i + 1))) in
+      let Q : ℕ → Type 0 = λ n. HasStep m around s (at + 4 * enter_size + 4 * size_before p.steps i) n in
+      subst P from (subst Q to (steps_placed m around (at + 4 * enter_size) parts.0 (site + 1) p.steps body body_sites called (omega (arith, small)) i s q))
+
+  pub proc_placed : HasProc m w at p
+  proc_placed = record {
+    site = site;
+    small = omega (arith, small);
+    enter = (let P : ℕ → Type 0 = λ n. Stands m.code at (enter_code p.frame site) n in subst P inner_is inner.1);
+    told = told.0;
+    steps = step_there;
+    low = λ i l. omega (arith, inside, m.short, before_small p.steps i);
+    even = λ i. omega (arith, block.place);
+  }
+
+  pub entry_small : at < 2 ^ 31
+  entry_small = omega (arith, inside, m.short)
+
+  pub entry_even : at % 4 ≡ 0
+  entry_even = omega (arith, block.place)
+
+-- ---- the whole program
+
+abbrev pub setting : (w : Whole) (entries : ℕ → ℕ) (text : List ℕ) (sites : List Site) (calls : List ℕ) → IsEmitted w entries text sites calls → IsWell w → Setting
+setting w entries text sites calls e well = record {
+  code = e.code;
+  entries = entries;
   store_size = w.store_size;
-  sites = sites_of w;
-  calls = calls_of w;
-  short = omega (arith, short, code_long w);
+  sites = sites;
+  calls = calls;
+  short = e.short;
   low = well.low;
 }
 
@@ -331,33 +350,26 @@ before_all ps zero = omega arith
 before_all [] (suc f) = omega arith
 before_all (p ∷ ps) (suc f) = let rest : procs_before ps f ≤ procs_size ps = before_all ps f in omega (arith, rest)
 
-pub built : (w : Whole) (well : IsWell w) (slots : AllHaveSlots w.procedures) (short : IsShort w) → Built (setting w well short) w
-built w well slots short =
-    let m : Setting = setting w well short in
-    let end : ℕ = text_start + 4 * (0 + length (code_of w)) in
-    let first : List Inst = start_code (entry_of w w.main) in
-    let rest : List Inst = procs_code w (text_start + 4 * start_size) 0 w.procedures in
-    let all : Stands (code_of w) (text_start + 0) (code_of w) end = stands_all (code_of w) [] (code_of w) refl in
+pub built : (w : Whole) (entries : ℕ → ℕ) (text : List ℕ) (sites : List Site) (calls : List ℕ) (e : IsEmitted w entries text sites calls) (well : IsWell w) → AllHaveSlots w.procedures →
+    Built (setting w entries text sites calls e well) w
+built w entries text sites calls e well slots =
+    let m : Setting = setting w entries text sites calls e well in
+    let first : List Inst = start_code (entries w.main) in
+    let end : ℕ = text_start + 4 * (0 + length (first ++ e.blocks)) in
+    let all : Stands e.code (text_start + 0) (first ++ e.blocks) end = stands_all (first ++ e.blocks) [] e.code e.start in
     let begin : text_start + 0 ≡ text_start = omega arith in
-    let B : ℕ → Type 0 = λ n. Stands (code_of w) n (code_of w) end in
-    let parts = stands_parts (code_of w) text_start first rest end (subst B begin all) in
-    let middle_is : parts.0 ≡ text_start + 40 = stands_long (code_of w) text_start first parts.0 parts.1 in
-    let P : ℕ → Type 0 = λ n. Stands (code_of w) n rest end in
-    let Q : ℕ → Type 0 = λ n. Stands (code_of w) text_start first n in
-    let code : Stands (code_of w) (text_start + 4 * start_size) rest end = subst P (middle_is ∙ omega arith) parts.2 in
+    let B : ℕ → Type 0 = λ n. Stands e.code n (first ++ e.blocks) end in
+    let parts = stands_parts e.code text_start first e.blocks end (subst B begin all) in
+    let middle_is : parts.0 ≡ text_start + 40 = stands_long e.code text_start first parts.0 parts.1 in
+    let Q : ℕ → Type 0 = λ n. Stands e.code text_start first n in
     record {
-      procs = λ f p found.
-          let has : HasProc m w (text_start + 4 * start_size + 4 * procs_before w.procedures f) p =
-          procs_placed m w (text_start + 4 * start_size) end 0 w.procedures code (sites_behind [] (sites_of w)) (listed_behind [] (calls_of w)) (omega (arith, short)) (omega (arith, short)) refl f p found in
-          let place_is : text_start + 4 * start_size + 4 * procs_before w.procedures f ≡ entry_of w f = omega arith in
-          let H : ℕ → Type 0 = λ n. HasProc m w n p in
-          record {
-            well = well_proc w w.procedures f p well.procedures found;
-            slots = slots_proc w.procedures f p slots found;
-            has = subst H place_is has;
-            entry = omega (arith, short, before_all w.procedures f);
-            even = omega arith;
-          };
+      procs = λ f p found. record {
+        well = well_proc w w.procedures f p well.procedures found;
+        slots = slots_proc w.procedures f p slots found;
+        has = proc_placed m w (entries f) p (e.procedures f p found) e.few;
+        entry = entry_small m w (entries f) p (e.procedures f p found) e.few;
+        even = entry_even m w (entries f) p (e.procedures f p found) e.few;
+      };
       addresses = well.addresses;
       store = refl;
       start = subst Q middle_is parts.1;

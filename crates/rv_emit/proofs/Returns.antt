@@ -13,7 +13,7 @@ use Rattle.odc_mid.specs.declared.tree.MidStep.{MidStep}
 use Rattle.odc_mid.specs.declared.tree.MidStep.TheVariants.{Const, Address, Move, Unary, Binary, Compare, Load, Store, Jump, Branch, Call, CallValue, Return, Check as CheckStep, System}
 use Rattle.odc_mid.specs.Tree.{Proc, Whole}
 use Rattle.odc_mid.specs.Run.{Activation, Caller, Config, set as set_temp}
-use Rattle.rv_emit.specs.Code.{entry_of, slot, load_slot, number_code}
+use Rattle.rv_emit.specs.Code.{slot, load_slot, number_code}
 use Rattle.rv_emit.proofs.Flat.{Setting, Flat, reg, set, Stands, stands_parts, Reaches}
 use Rattle.rv_emit.proofs.Steps.{putting, storing_word, adds, jumps}
 use Rattle.rv_emit.proofs.Numbers.{number_sim, store_slot_sim}
@@ -157,8 +157,8 @@ module _ (m : Setting) (w : Whole) (b : Built m w) where
       ((x : ℕ) → outer_of w.store_size cs x ≡ true → c.here.touched x ≡ true) → Returned place a v (base_of cs) t.back → Sim m w b 32 place a (returns v cs c)
   return_to c place a t v fits [] is wait more way =
       let tail : List Inst = Addi 10 0 (pos 0) ∷ Addi 17 0 (pos 93) ∷ Ecall ∷ [] in
-      let q = stands_parts m.code (text_start + 4 + 4) (number_code 6 (entry_of w w.main)) (Jalr 1 6 (pos 0) ∷ tail) (text_start + 40) b.start.1.1 in
-      let far : q.0 ≡ text_start + 4 + 4 + 4 * 4 = stands_long m.code (text_start + 4 + 4) (number_code 6 (entry_of w w.main)) q.0 q.1 in
+      let q = stands_parts m.code (text_start + 4 + 4) (number_code 6 (m.entries w.main)) (Jalr 1 6 (pos 0) ∷ tail) (text_start + 40) b.start.1.1 in
+      let far : q.0 ≡ text_start + 4 + 4 + 4 * 4 = stands_long m.code (text_start + 4 + 4) (number_code 6 (m.entries w.main)) q.0 q.1 in
       let there : q.0 + 4 ≡ t.back = omega (arith, far, wait) in
       let C : ℕ → Type 0 = λ k. Stands m.code k tail (text_start + 40) in
       let code : Stands m.code t.back tail (text_start + 40) = subst C there q.2.1 in
@@ -222,7 +222,7 @@ module _ (m : Setting) (w : Whole) (b : Built m w) where
   bound_of (CallValue to target arguments marked) = 32 + 14 * length arguments.items
   bound_of _ = 32
 
-  pub carried_sim : (c : Config) (place : ℕ) (a : Flat) (t : Tied m w b c place a) (s : MidStep) → slice_get c.here.steps c.here.next ≡ Some s → Sim m w b (bound_of s) place a (carried (world_of (entry_of w) w) s c)
+  pub carried_sim : (c : Config) (place : ℕ) (a : Flat) (t : Tied m w b c place a) (s : MidStep) → slice_get c.here.steps c.here.next ≡ Some s → Sim m w b (bound_of s) place a (carried (world_of m.entries w) s c)
   carried_sim c place a t (Const to v) e = const_sim m w b c place a t to v e
   carried_sim c place a t (Address to of) e = address_sim m w b c place a t to of e
   carried_sim c place a t (Move to u) e = move_sim m w b c place a t to u e

@@ -9,7 +9,6 @@ use Rattle.odc_mid.specs.declared.tree.MidStep.{MidStep}
 use Rattle.odc_mid.specs.declared.tree.MidStep.TheVariants.{Const, Address, Move, Unary, Binary, Compare, Load, Store, Jump, Branch, Call, CallValue, Return, Check as CheckStep, System}
 use Rattle.odc_mid.specs.Tree.{Proc, Whole}
 use Rattle.odc_mid.specs.Run.{Config, strays}
-use Rattle.rv_emit.specs.Code.{entry_of}
 use Rattle.rv_emit.proofs.Flat.{Setting, Flat}
 use Rattle.rv_emit.proofs.Ties.{Built, Tied}
 use Rattle.rv_emit.proofs.Sims.{Moved, Ended, Left, Sim, strays_sim}
@@ -80,16 +79,16 @@ module _ (m : Setting) (w : Whole) (b : Built m w) where
   sim_more x y place a (over (trapped pc) last) h s = record { by = s.by }
   sim_more x y place a (over going last) h s = record { by = s.by }
 
-  act_sim : (c : Config) (place : ℕ) (a : Flat) → Tied m w b c place a → Sim m w b (factor w) place a (act (world_of (entry_of w) w) c)
+  act_sim : (c : Config) (place : ℕ) (a : Flat) → Tied m w b c place a → Sim m w b (factor w) place a (act (world_of m.entries w) c)
   act_sim c place a t = by (slice_get c.here.steps c.here.next) refl
     where
-      by : (o : Option MidStep) → slice_get c.here.steps c.here.next ≡ o → Sim m w b (factor w) place a (carried_at (world_of (entry_of w) w) o c)
+      by : (o : Option MidStep) → slice_get c.here.steps c.here.next ≡ o → Sim m w b (factor w) place a (carried_at (world_of m.entries w) o c)
       by None e = strays_sim m w b (factor w) c place a t
       by (Some s) e =
           let at_step : slice_get t.p.steps c.here.next ≡ Some s = ap (λ (ss : List MidStep). slice_get ss c.here.next) (sym t.act.steps) ∙ e in
           let one : step_width s ≤ steps_width t.p.steps = width_step t.p.steps c.here.next s at_step in
           let two : steps_width t.p.steps ≤ procs_width w.procedures = width_proc w.procedures t.f t.p t.act.found in
-          sim_more (bound_of m w b s) (factor w) place a (carried (world_of (entry_of w) w) s c) (omega (arith, bound_is s, one, two)) (carried_sim m w b c place a t s e)
+          sim_more (bound_of m w b s) (factor w) place a (carried (world_of m.entries w) s c) (omega (arith, bound_is s, one, two)) (carried_sim m w b c place a t s e)
 
   -- ---- a run of so many steps
 
@@ -128,7 +127,7 @@ module _ (m : Setting) (w : Whole) (b : Built m w) where
   stands_on n k going conf d d' few some h = omega (arith, h, some)
 
   abbrev mid_step : Config → After Config
-  mid_step c = act (world_of (entry_of w) w) c
+  mid_step c = act (world_of m.entries w) c
 
   first_paid : (f d : ℕ) → d + 1 ≤ f → d + 1 ≤ f * 1
   first_paid f d h = let one : f * 1 ≡ f = mul-one f in omega (arith, one, h)

@@ -30,7 +30,7 @@ use Rattle.odc_mid.specs.declared.tree.MidStep.TheVariants.{Const, Move, Unary, 
 use Rattle.odc_mid.specs.Tree.{Whole}
 use Rattle.odc_mid.specs.Run.{Config, gives, gives_found, go_on, strays, with_memory}
 use Rattle.odc_mid.specs.Well.{Known, set_by, ways_of, IsStepAt, Leads, SetBelow, names_in}
-use Rattle.rv_emit.specs.Code.{around_of, entry_of, slot, load_slot, store_slot, word_code, unary_code, binary_code, compare_code, load_code, store_code}
+use Rattle.rv_emit.specs.Code.{around_of, slot, load_slot, store_slot, word_code, unary_code, binary_code, compare_code, load_code, store_code}
 use Rattle.rv_emit.proofs.Flat.{Setting, layout, Flat, Regs, reg, set, At, Stands, stands_parts, Reaches, reaches_on, Ends, puts, loads, stores}
 use Rattle.rv_emit.proofs.Steps.{putting, plus_small, adds, shifts}
 use Rattle.rv_emit.proofs.Numbers.{word_sim, load_slot_sim, store_slot_sim}
@@ -90,12 +90,12 @@ module _ (m : Setting) (w : Whole) (b : Built m w) where
 
   pub record Here (c : Config) (place : ℕ) (a : Flat) (t : Tied m w b c place a) (s : MidStep) : Type 0 where
     pub well : IsStepAt (names_in w t.p) (known_in m w b t.f t.p t.act.found) c.here.next s
-    pub has : HasStep m (around_of w (entry_of w t.f) t.p) s place (place_of m w b t.f t.p (c.here.next + 1))
+    pub has : HasStep m (around_of m.entries w.addresses (m.entries t.f) t.p) s place (place_of m w b t.f t.p (c.here.next + 1))
 
   pub here_step : (c : Config) (place : ℕ) (a : Flat) (t : Tied m w b c place a) (s : MidStep) → slice_get c.here.steps c.here.next ≡ Some s → Here c place a t s
   here_step c place a t s e =
       let at_step : slice_get t.p.steps c.here.next ≡ Some s = ap (λ (ss : List MidStep). slice_get ss c.here.next) (sym t.act.steps) ∙ e in
-      let P : ℕ → Type 0 = λ q. HasStep m (around_of w (entry_of w t.f) t.p) s q (place_of m w b t.f t.p (c.here.next + 1)) in
+      let P : ℕ → Type 0 = λ q. HasStep m (around_of m.entries w.addresses (m.entries t.f) t.p) s q (place_of m w b t.f t.p (c.here.next + 1)) in
       record {
         well = well_step m w b t.f t.p t.act.found c.here.next s at_step;
         has = subst P (sym t.at) ((b.procs t.f t.p t.act.found).has.steps c.here.next s at_step);

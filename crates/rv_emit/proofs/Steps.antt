@@ -6,7 +6,7 @@ use Rattle.std.specs.Int.{w64, to_le_bytes, from_le_bytes}
 use Rattle.rv_table.specs.State.{address_from}
 use Rattle.rv_table.specs.Words.{plus, word, shifted_left}
 use Rattle.rv_table.specs.Bytes.{run, written}
-use Rattle.rv_table.specs.declared.inst.Inst.TheVariants.{Jalr, Beq, Bgeu, Bne, Sd, Ld, Addi, Slli, Add}
+use Rattle.rv_table.specs.declared.inst.Inst.TheVariants.{Auipc, Jalr, Beq, Bgeu, Bne, Sd, Ld, Addi, Slli, Add}
 use Rattle.rv_table.specs.declared.effect.Effect.TheVariants.{Put, Load, Store, Branch, Link}
 use Rattle.rv_table.specs.declared.effect.StoreKind.TheVariants.{Double as StoreDouble}
 use Rattle.rv_table.specs.declared.effect.LoadKind.TheVariants.{Double as LoadDouble}
@@ -14,7 +14,7 @@ use Rattle.rv_table.specs.Words.{upper}
 use Rattle.rv_table.specs.Areas.{has}
 use Rattle.rv_table.specs.declared.effect.Access.TheVariants.{Read, Write}
 use Rattle.rv_table.specs.declared.inst.Inst.TheVariants.{Lui}
-use Rattle.rv_emit.proofs.Flat.{Setting, layout, Flat, reg, set, At, Reaches, puts, loads, stores, branches, links, reaches_on, stays, regs_alike}
+use Rattle.rv_emit.proofs.Flat.{Setting, layout, Flat, reg, set, At, Reaches, puts, puts_here, loads, stores, branches, links, reaches_on, stays, regs_alike}
 
 abbrev pub putting : Flat → ℕ → ℕ → Flat
 putting a rd v = record a { regs = set a.regs rd v }
@@ -79,6 +79,11 @@ module _ (m : Setting) where
   -- the upper bits of a number
   pub lifts : (p : ℕ) (a : Flat) (rd : ℕ) (imm : ℤ) (v : ℕ) → At m.code p (Lui rd imm) → rd < 32 → upper imm ≡ v → Reaches m p a 1 (p + 4) (putting a rd v)
   lifts p a rd imm v at d e = puts m p a (Lui rd imm) rd v at refl d (λ s r. ap (Put rd) e)
+
+  -- the address at which the instruction stands
+  pub finds : (p : ℕ) (a : Flat) (rd : ℕ) → At m.code p (Auipc rd (pos 0)) → rd < 32 → p < 2 ^ 64 → Reaches m p a 1 (p + 4) (putting a rd p)
+  finds p a rd at d small =
+      puts_here m p a (Auipc rd (pos 0)) rd p at refl d (λ s r q. ap (λ (x : ℕ). Put rd (plus x (upper (pos 0)))) q ∙ ap (Put rd) (plus_small p 0 (omega arith) ∙ add-zero p))
 
   pub branches_eq : (p : ℕ) (a : Flat) (rs1 rs2 : ℕ) (offset : ℤ) (target : ℕ) (taken : Bool) → At m.code p (Beq rs1 rs2 offset) → rs1 < 32 → rs2 < 32 →
       address_from p offset ≡ target → target % 4 ≡ 0 → ((reg a.regs rs1) == (reg a.regs rs2)) ≡ taken →

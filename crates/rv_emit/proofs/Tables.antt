@@ -2,9 +2,9 @@
 use Rattle.std.proofs.Common.{◌≡◌, ℕ, zero, suc, ◌+◌, ◌<◌, ◌≤◌, ◌⊎◌, inl, inr, List, [], ◌∷◌, ◌++◌, length, map, get_or, arith, ap, ◌∙◌, sym, subst, refl, length-append}
 use Rattle.std.specs.Prelude.{slice_index}
 use Rattle.odc_mid.specs.declared.tree.MidStep.{MidStep}
-use Rattle.odc_mid.specs.declared.tree.MidProcedure.{MidProcedure}
-use Rattle.odc_mid.specs.View.{proc}
-use Rattle.rv_emit.specs.Code.{step_size, steps_size, size_before, proc_size, procs_size, procs_before}
+use Rattle.rv_emit.specs.Code.{step_size, steps_size, size_before}
+use Rattle.rv_emit.specs.Blocks.{block, size_in_front, size_of_all}
+use Rattle.rv_emit.specs.declared.unlinked.Block.{Block as BlockType}
 use Rattle.rv_emit.specs.Tables.{IsTable}
 
 index_front : (xs : List ℕ) (v k : ℕ) → k < length xs → slice_index (xs ++ v ∷ []) k ≡ slice_index xs k
@@ -50,16 +50,18 @@ size_next_of xs ys same i x h e = let P : List MidStep → Type 0 = λ zs. size_
 pub size_fits_of : (xs ys : List MidStep) → ys ≡ xs → (i : ℕ) (x : MidStep) → i < length ys → x ≡ get_or ys i x → size_before xs i + step_size x ≤ steps_size xs
 size_fits_of xs ys same i x h e = let P : List MidStep → Type 0 = λ zs. size_before zs i + step_size x ≤ steps_size zs in subst P same (size_fits ys i x h e)
 
--- ---- one more procedure
+-- ---- one more block
 
-pub procs_next : (ps : List MidProcedure) (f : ℕ) (p : MidProcedure) → f < length ps → p ≡ get_or ps f p → procs_before (map proc ps) (f + 1) ≡ procs_before (map proc ps) f + proc_size (proc p)
-procs_next [] f p h e = absurd (omega arith)
-procs_next (q ∷ qs) zero p h e = ap (λ y. proc_size (proc y) + 0) (sym e) ∙ omega arith
-procs_next (q ∷ qs) (suc f) p h e =
+pub blocks_next : (bs : List BlockType) (f : ℕ) (b : BlockType) → f < length bs → b ≡ get_or bs f b → size_in_front (map block bs) (f + 1) ≡ size_in_front (map block bs) f + length b.code.items
+blocks_next [] f b h e = absurd (omega arith)
+blocks_next (x ∷ bs) zero b h e = ap (λ (y : BlockType). length y.code.items + 0) (sym e) ∙ omega arith
+blocks_next (x ∷ bs) (suc f) b h e =
     let next : suc f + 1 ≡ suc (f + 1) = omega arith in
-    ap (procs_before (map proc (q ∷ qs))) next ∙ ap (λ (n : ℕ). proc_size (proc q) + n) (procs_next qs f p (omega arith) e) ∙ omega arith
+    ap (size_in_front (map block (x ∷ bs))) next ∙ ap (λ (n : ℕ). length x.code.items + n) (blocks_next bs f b (omega arith) e) ∙ omega arith
 
-pub procs_fit : (ps : List MidProcedure) (f : ℕ) (p : MidProcedure) → f < length ps → p ≡ get_or ps f p → procs_before (map proc ps) f + proc_size (proc p) ≤ procs_size (map proc ps)
-procs_fit [] f p h e = absurd (omega arith)
-procs_fit (q ∷ qs) zero p h e = let same : proc_size (proc p) ≡ proc_size (proc q) = ap (λ y. proc_size (proc y)) e in omega (arith, same)
-procs_fit (q ∷ qs) (suc f) p h e = let rest : procs_before (map proc qs) f + proc_size (proc p) ≤ procs_size (map proc qs) = procs_fit qs f p (omega arith) e in omega (arith, rest)
+pub blocks_fit : (bs : List BlockType) (f : ℕ) (b : BlockType) → f < length bs → b ≡ get_or bs f b → size_in_front (map block bs) f + length b.code.items ≤ size_of_all (map block bs)
+blocks_fit [] f b h e = absurd (omega arith)
+blocks_fit (x ∷ bs) zero b h e = let same : length b.code.items ≡ length x.code.items = ap (λ (y : BlockType). length y.code.items) e in omega (arith, same)
+blocks_fit (x ∷ bs) (suc f) b h e =
+    let rest : size_in_front (map block bs) f + length b.code.items ≤ size_of_all (map block bs) = blocks_fit bs f b (omega arith) e in
+    omega (arith, rest)

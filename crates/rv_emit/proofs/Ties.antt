@@ -18,7 +18,7 @@ use Rattle.odc_mid.specs.declared.tree.MidStep.{MidStep}
 use Rattle.odc_mid.specs.Tree.{Proc, Whole}
 use Rattle.odc_mid.specs.Run.{Activation, Caller, Config, set}
 use Rattle.odc_mid.specs.Well.{Names, Known, set_by, ways_of, IsStepAt, AreSteps, AllLead, Leads, IsSet, SetBelow, IsWellProc, names_in}
-use Rattle.rv_emit.specs.Code.{text_start, Around, around_of, entry_of, slot, step_code, step_sites, step_calls, enter_code, store_slot, variables_end, start_code}
+use Rattle.rv_emit.specs.Code.{text_start, Around, around_of, slot, step_code, step_sites, step_calls, enter_code, store_slot, variables_end, start_code}
 use Rattle.rv_emit.specs.Layout.{HasSlots}
 use Rattle.rv_emit.proofs.Flat.{Setting, Flat, Stands}
 use Rattle.rv_emit.proofs.Ranges.{InRegion}
@@ -38,7 +38,7 @@ AreListed calls (c ∷ cs) = (listed calls c ≡ true) × AreListed calls cs
 pub record HasStep (m : Setting) (around : Around) (s : MidStep) (p q : ℕ) : Type 0 where
   pub site : ℕ
   pub small : site < 2 ^ 31
-  pub code : Stands m.code p (step_code around site s) q
+  pub code : Stands m.code p (step_code around p site s) q
   pub sites : SitesAt m.sites site (step_sites s)
   pub calls : AreListed m.calls (step_calls p s)
 
@@ -46,24 +46,24 @@ pub record HasStep (m : Setting) (around : Around) (s : MidStep) (p q : ℕ) : T
 pub record HasProc (m : Setting) (w : Whole) (at : ℕ) (p : Proc) : Type 0 where
   pub site : ℕ
   pub small : site < 2 ^ 31
-  pub enter : Stands m.code at (enter_code p.frame site) ((around_of w at p).place 0)
+  pub enter : Stands m.code at (enter_code p.frame site) ((around_of m.entries w.addresses at p).place 0)
   pub told : slice_get m.sites site ≡ Some (Stack, p.at)
-  pub steps : (i : ℕ) (s : MidStep) → slice_get p.steps i ≡ Some s → HasStep m (around_of w at p) s ((around_of w at p).place i) ((around_of w at p).place (i + 1))
-  pub low : (i : ℕ) → i ≤ length p.steps → (around_of w at p).place i < 2 ^ 31
-  pub even : (i : ℕ) → (around_of w at p).place i % 4 ≡ 0
+  pub steps : (i : ℕ) (s : MidStep) → slice_get p.steps i ≡ Some s → HasStep m (around_of m.entries w.addresses at p) s ((around_of m.entries w.addresses at p).place i) ((around_of m.entries w.addresses at p).place (i + 1))
+  pub low : (i : ℕ) → i ≤ length p.steps → (around_of m.entries w.addresses at p).place i < 2 ^ 31
+  pub even : (i : ℕ) → (around_of m.entries w.addresses at p).place i % 4 ≡ 0
 
 pub record IsBuilt (m : Setting) (w : Whole) (f : ℕ) (p : Proc) : Type 0 where
   pub well : IsWellProc w p
   pub slots : HasSlots p
-  pub has : HasProc m w (entry_of w f) p
-  pub entry : entry_of w f < 2 ^ 31
-  pub even : entry_of w f % 4 ≡ 0
+  pub has : HasProc m w (m.entries f) p
+  pub entry : m.entries f < 2 ^ 31
+  pub even : m.entries f % 4 ≡ 0
 
 pub record Built (m : Setting) (w : Whole) : Type 1 where
   pub procs : (f : ℕ) (p : Proc) → slice_get w.procedures f ≡ Some p → IsBuilt m w f p
   pub addresses : AreInStore w.store_size w.addresses
   pub store : m.store_size ≡ w.store_size
-  pub start : Stands m.code text_start (start_code (entry_of w w.main)) (text_start + 40)
+  pub start : Stands m.code text_start (start_code (m.entries w.main)) (text_start + 40)
 
 -- ---- variables and slots
 
@@ -104,7 +104,7 @@ base_of (c ∷ cs) = c.activation.low
 
 module _ (m : Setting) (w : Whole) (b : Built m w) where
   abbrev pub place_of : ℕ → Proc → ℕ → ℕ
-  place_of f p i = (around_of w (entry_of w f) p).place i
+  place_of f p i = (around_of m.entries w.addresses (m.entries f) p).place i
 
   pub record IsActivation (act : Activation) (outer : ℕ → Bool) (base f : ℕ) (p : Proc) : Type 0 where
     pub found : slice_get w.procedures f ≡ Some p

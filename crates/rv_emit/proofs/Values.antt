@@ -11,7 +11,7 @@ use Rattle.odc_mid.specs.declared.tree.MidStep.TheVariants.{CallValue}
 use Rattle.odc_mid.specs.Tree.{Proc, Whole}
 use Rattle.odc_mid.specs.Run.{Config, strays}
 use Rattle.odc_mid.specs.Well.{set_by, ways_of}
-use Rattle.rv_emit.specs.Code.{entry_of, load_slot, store_slot}
+use Rattle.rv_emit.specs.Code.{load_slot, store_slot}
 use Rattle.rv_emit.proofs.Flat.{Setting, Flat, reg, set, Stands, stands_parts, Reaches}
 use Rattle.rv_emit.proofs.Ties.{IsBuilt, Built, place_of, known_in, Tied}
 use Rattle.rv_emit.proofs.Sims.{stands_long, Sim, joined, strays_sim, Here, here_step, temp_sim}
@@ -86,7 +86,7 @@ module _ (m : Setting) (w : Whole) (b : Built m w) where
 
   -- a call of an allocator whose six arguments are these
   allocator_sim : (c : Config) (place : ℕ) (a : Flat) (t : Tied m w b c place a) (s : MidStep) (to target u v x y z o : ℕ) (f : ℕ) (p : Proc) → slice_get c.here.steps c.here.next ≡ Some s → set_by s ≡ Some to →
-      ways_of c.here.next s ≡ suc c.here.next ∷ [] → slice_get w.procedures f ≡ Some p → p.parameters ≡ 6 → entry_of w f ≡ c.here.temps target →
+      ways_of c.here.next s ≡ suc c.here.next ∷ [] → slice_get w.procedures f ≡ Some p → p.parameters ≡ 6 → m.entries f ≡ c.here.temps target →
       Stands m.code place (value_code t.p.frame to target (u ∷ v ∷ x ∷ y ∷ z ∷ o ∷ []) true) (place_of m w b t.f t.p (c.here.next + 1)) → listed m.calls (place + 4 * (6 + (36 + (13 + 8 * 6)))) ≡ true →
       AreKnown (known_in m w b t.f t.p t.act.found) c.here.next (target ∷ u ∷ v ∷ x ∷ y ∷ z ∷ o ∷ []) →
       Sim m w b 116 place a (calls_told to (slice_get w.procedures f) (map c.here.temps (u ∷ v ∷ x ∷ y ∷ z ∷ o ∷ [])) (event_of (c.here.temps target) (map c.here.temps (u ∷ v ∷ x ∷ y ∷ z ∷ o ∷ []))) c)
@@ -111,29 +111,29 @@ module _ (m : Setting) (w : Whole) (b : Built m w) where
       let l3 : q3.0 ≡ q2.0 + 4 * 61 = stands_long m.code q2.0 (pass_code F ts) q3.0 q3.1 in
       let place_is : place + 4 * (6 + (36 + (13 + 8 * 6))) ≡ q3.0 = omega (arith, l1, l2, l3) in
       let told_there : listed m.calls q3.0 ≡ true = ap (listed m.calls) (sym place_is) ∙ told in
-      let target_is : address_from (reg b0.regs 5) (pos 0) / 2 * 2 ≡ entry_of w f =
-      ap (λ (n : ℕ). address_from n (pos 0) / 2 * 2) (sent.kept.five ∙ sym word_is) ∙ jump_target (entry_of w f) (omega (arith, built.entry)) built.even in
+      let target_is : address_from (reg b0.regs 5) (pos 0) / 2 * 2 ≡ m.entries f =
+      ap (λ (n : ℕ). address_from n (pos 0) / 2 * 2) (sent.kept.five ∙ sym word_is) ∙ jump_target (m.entries f) (omega (arith, built.entry)) built.even in
       let made : Made ℕ ℕ =
       record { procedure = temps target; given = temps u; mode = cast_signed w64 (temps v); size = cast_signed w64 (temps x); align = cast_signed w64 (temps y); old = temps z; old_size = cast_signed w64 (temps o) } in
       let is : flat_call b0.regs ≡ made =
       call_is b0.regs (temps target) (temps u) (temps v) (temps x) (temps y) (temps z) (temps o) sent.kept.five sent.kept.ten sent.kept.eleven sent.kept.twelve sent.kept.thirteen sent.kept.fourteen sent.kept.fifteen in
-      let one : Reaches m q3.0 b0 1 (entry_of w f) (record b0 { regs = set b0.regs 1 (q3.0 + 4); log = a.log ++ call (flat_call b0.regs) ∷ [] }) =
-      calls_allocator m q3.0 b0 (entry_of w f) q3.2.0 told_there target_is built.even in
-      let R : Made ℕ ℕ → Type 0 = λ d. Reaches m q3.0 b0 1 (entry_of w f) (record b0 { regs = set b0.regs 1 (q3.0 + 4); log = a.log ++ call d ∷ [] }) in
+      let one : Reaches m q3.0 b0 1 (m.entries f) (record b0 { regs = set b0.regs 1 (q3.0 + 4); log = a.log ++ call (flat_call b0.regs) ∷ [] }) =
+      calls_allocator m q3.0 b0 (m.entries f) q3.2.0 told_there target_is built.even in
+      let R : Made ℕ ℕ → Type 0 = λ d. Reaches m q3.0 b0 1 (m.entries f) (record b0 { regs = set b0.regs 1 (q3.0 + 4); log = a.log ++ call d ∷ [] }) in
       let c' : Config = record c { log = c.log ++ call made ∷ [] } in
       let a' : Flat = record a { log = a.log ++ call made ∷ [] } in
       let t' : Tied m w b c' place a' = tied_log m w b c place a (call made ∷ []) t in
       let O : Option Proc → Type 0 = λ k. Sim m w b 116 place a (calls to k (map temps ts) c') in
       let s1 : Reaches m place a 42 q2.0 (record a { regs = h2 }) = joined m w b r1 r2 in
       let s2 : Reaches m place a (42 + sent.steps) q3.0 b0 = joined m w b s1 sent.reaches in
-      let s3 : Reaches m place a (42 + sent.steps + 1) (entry_of w f) (record b0 { regs = set b0.regs 1 (q3.0 + 4); log = a.log ++ call made ∷ [] }) = joined m w b s2 (subst R is one) in
+      let s3 : Reaches m place a (42 + sent.steps + 1) (m.entries f) (record b0 { regs = set b0.regs 1 (q3.0 + 4); log = a.log ++ call made ∷ [] }) = joined m w b s2 (subst R is one) in
       subst O (sym found)
       (call_to m w b 116 place a c' place a' t' s to ts f p found e sets way count known.1 (42 + sent.steps + 1) (set b0.regs 1 (q3.0 + 4)) sent.mem (q3.0 + 4) s3 (sent.kept.two ∙ t.sp) refl
       sent.bytes sent.above sent.below sent.held (return_place m w b q3.0 (Jalr 1 5 (pos 0)) q3.2.0) q3.2.1 (omega (arith, sent.few)))
 
   -- with any other number of arguments the run strays
   marked_sim : (c : Config) (place : ℕ) (a : Flat) (t : Tied m w b c place a) (s : MidStep) (to target : ℕ) (ts : List ℕ) (f : ℕ) (p : Proc) → slice_get c.here.steps c.here.next ≡ Some s → set_by s ≡ Some to →
-      ways_of c.here.next s ≡ suc c.here.next ∷ [] → slice_get w.procedures f ≡ Some p → p.parameters ≡ length ts → entry_of w f ≡ c.here.temps target →
+      ways_of c.here.next s ≡ suc c.here.next ∷ [] → slice_get w.procedures f ≡ Some p → p.parameters ≡ length ts → m.entries f ≡ c.here.temps target →
       Stands m.code place (value_code t.p.frame to target ts true) (place_of m w b t.f t.p (c.here.next + 1)) → listed m.calls (place + 4 * (6 + (registers_size ts + (13 + 8 * length ts)))) ≡ true →
       AreKnown (known_in m w b t.f t.p t.act.found) c.here.next (target ∷ ts) →
       Sim m w b (32 + 14 * length ts) place a (calls_told to (slice_get w.procedures f) (map c.here.temps ts) (event_of (c.here.temps target) (map c.here.temps ts)) c)
@@ -163,8 +163,8 @@ module _ (m : Setting) (w : Whole) (b : Built m w) where
 
   pub value_sim : (c : Config) (place : ℕ) (a : Flat) (t : Tied m w b c place a) (to target : ℕ) (arguments : _) (marked : Bool) → slice_get c.here.steps c.here.next ≡ Some (CallValue to target arguments marked) →
       Sim m w b (32 + 14 * length arguments.items) place a
-      (calls_found (world_of (entry_of w) w) to (c.here.temps target) (map c.here.temps arguments.items) marked (called_by (entry_of w) 0 w.procedures (c.here.temps target)) c)
-  value_sim c place a t to target arguments marked e = by_found (called_by (entry_of w) 0 w.procedures (c.here.temps target)) refl
+      (calls_found (world_of m.entries w) to (c.here.temps target) (map c.here.temps arguments.items) marked (called_by m.entries 0 w.procedures (c.here.temps target)) c)
+  value_sim c place a t to target arguments marked e = by_found (called_by m.entries 0 w.procedures (c.here.temps target)) refl
     where
       n : ℕ
       n = 32 + 14 * length arguments.items
@@ -173,7 +173,7 @@ module _ (m : Setting) (w : Whole) (b : Built m w) where
       words = map c.here.temps arguments.items
 
       carried : (marked : Bool) (f : ℕ) (p : Proc) → slice_get c.here.steps c.here.next ≡ Some (CallValue to target arguments marked) → slice_get w.procedures f ≡ Some p → p.parameters ≡ length arguments.items →
-          entry_of w f ≡ c.here.temps target →
+          m.entries f ≡ c.here.temps target →
           Sim m w b (32 + 14 * length arguments.items) place a
           (if marked then calls_told to (slice_get w.procedures f) (map c.here.temps arguments.items) (event_of (c.here.temps target) (map c.here.temps arguments.items)) c
           else calls to (slice_get w.procedures f) (map c.here.temps arguments.items) c)
@@ -185,7 +185,7 @@ module _ (m : Setting) (w : Whole) (b : Built m w) where
           let O : Option Proc → Type 0 = λ o. Sim m w b (32 + 14 * length arguments.items) place a (calls to o (map c.here.temps arguments.items) c) in
           subst O (sym found) (plain_sim m w b c place a t to target arguments f p e found count word_is)
 
-      by_takes : (f : ℕ) (z : Bool) → called_by (entry_of w) 0 w.procedures (c.here.temps target) ≡ Some f → takes (length (map c.here.temps arguments.items)) (slice_get w.procedures f) ≡ z →
+      by_takes : (f : ℕ) (z : Bool) → called_by m.entries 0 w.procedures (c.here.temps target) ≡ Some f → takes (length (map c.here.temps arguments.items)) (slice_get w.procedures f) ≡ z →
           Sim m w b (32 + 14 * length arguments.items) place a
           (if z
           then (if marked then calls_told to (slice_get w.procedures f) (map c.here.temps arguments.items) (event_of (c.here.temps target) (map c.here.temps arguments.items)) c
@@ -193,10 +193,10 @@ module _ (m : Setting) (w : Whole) (b : Built m w) where
           else strays c)
       by_takes f true q h =
           let k : Fits (slice_get w.procedures f) (length (map c.here.temps arguments.items)) = takes_fits (slice_get w.procedures f) (length (map c.here.temps arguments.items)) h in
-          carried marked f k.proc e k.is (k.count ∙ length_map m w b c.here.temps arguments.items) (called_word m w b (entry_of w) 0 w.procedures (c.here.temps target) f q)
+          carried marked f k.proc e k.is (k.count ∙ length_map m w b c.here.temps arguments.items) (called_word m w b m.entries 0 w.procedures (c.here.temps target) f q)
       by_takes f false q h = strays_sim m w b (32 + 14 * length arguments.items) c place a t
 
-      by_found : (o : Option ℕ) → called_by (entry_of w) 0 w.procedures (c.here.temps target) ≡ o →
-          Sim m w b (32 + 14 * length arguments.items) place a (calls_found (world_of (entry_of w) w) to (c.here.temps target) (map c.here.temps arguments.items) marked o c)
+      by_found : (o : Option ℕ) → called_by m.entries 0 w.procedures (c.here.temps target) ≡ o →
+          Sim m w b (32 + 14 * length arguments.items) place a (calls_found (world_of m.entries w) to (c.here.temps target) (map c.here.temps arguments.items) marked o c)
       by_found None q = strays_sim m w b (32 + 14 * length arguments.items) c place a t
       by_found (Some f) q = by_takes f (takes (length (map c.here.temps arguments.items)) (slice_get w.procedures f)) q refl

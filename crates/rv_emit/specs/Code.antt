@@ -2,13 +2,13 @@
 -- has a slot of eight bytes below the frame's high end, so that a caller, whose low end that is, can put
 -- the arguments there. A step loads what it reads into registers, works on these, and stores the word
 -- that it sets. The first eight bytes of a frame keep the return address.
-use Rattle.std.specs.Prelude.{ℕ, zero, suc, ◌+◌, ◌-◌, ◌*◌, ◌/◌, ◌%◌, ◌^◌, pos, negsuc, Bool, true, false, List, [], ◌∷◌, ◌++◌, length, Option, Some, None, slice_get, get_or}
+use Rattle.std.specs.Prelude.{ℕ, zero, suc, ◌+◌, ◌-◌, ◌*◌, ◌/◌, ◌%◌, ◌^◌, pos, negsuc, Bool, true, false, cond, nat_lt, List, [], ◌∷◌, ◌++◌, length, Option, Some, None, slice_get, get_or}
 use Rattle.odc_text.specs.declared.check.Check.{Check}
 use Rattle.odc_text.specs.declared.check.Check.TheVariants.{Stack}
 use Rattle.odc_text.specs.Check.{number_of}
 use Rattle.rv_table.specs.Run.{Site}
 use Rattle.rv_table.specs.declared.inst.Inst.{Inst}
-use Rattle.rv_table.specs.declared.inst.Inst.TheVariants.{Lui, Jalr, Beq, Bne, Bgeu, Lbu, Lhu, Lwu, Ld, Sb, Sh, Sw, Sd, Addi, Sltiu, Slli, Srai, Add, Sub, Sll, Slt, Sltu, Xor, Srl, Sra, Or, And, Mul, Div, Divu, Rem, Remu, Ecall, Ebreak}
+use Rattle.rv_table.specs.declared.inst.Inst.TheVariants.{Lui, Auipc, Jalr, Beq, Bne, Bgeu, Lbu, Lhu, Lwu, Ld, Sb, Sh, Sw, Sd, Addi, Sltiu, Slli, Srai, Add, Sub, Sll, Slt, Sltu, Xor, Srl, Sra, Or, And, Mul, Div, Divu, Rem, Remu, Ecall, Ebreak}
 use Rattle.odc_core.specs.declared.tree.Variable.{Variable}
 use Rattle.odc_core.specs.declared.tree.Width.{Width}
 use Rattle.odc_core.specs.declared.tree.Width.TheVariants.{Byte, Half, Word, Double}
@@ -130,8 +130,18 @@ named_size (Procedure f) = 4
 
 -- ---- jumps
 
-abbrev pub jump_code : ℕ → List Inst
-jump_code place = number_code 6 place ++ (Jalr 0 6 (pos 0) ∷ [])
+-- how far it is from one address to another, up or down
+abbrev pub distance : ℕ → ℕ → ℕ
+distance from to = (to - from) + (from - to)
+
+-- the instruction that goes this far, up or down, from the address in register 6
+abbrev pub way_code : ℕ → ℕ → Inst
+way_code from to = cond (nat_lt to from) (Sub 6 6 7) (Add 6 6 7)
+
+-- A jump from the address of its first instruction. It tells only how far it is to the other address, so
+-- that code may stand anywhere.
+abbrev pub jump_code : ℕ → ℕ → List Inst
+jump_code from to = Auipc 6 (pos 0) ∷ (number_code 7 (distance from to) ++ (way_code from to ∷ Jalr 0 6 (pos 0) ∷ []))
 
 -- ---- calls
 
@@ -199,26 +209,26 @@ system_size (Exit code) = 8
 
 -- ---- steps
 
--- the code of a step whose check, if it is one, has this site
-abbrev pub step_code : Around → ℕ → MidStep → List Inst
-step_code around site (Const to word) = word_code 6 word ++ store_slot around.frame 6 to
-step_code around site (Address to of) = named_code around of ++ store_slot around.frame 6 to
-step_code around site (Move to from) = load_slot around.frame 6 from ++ store_slot around.frame 6 to
-step_code around site (Unary to op operand) = load_slot around.frame 6 operand ++ (unary_code op ++ store_slot around.frame 6 to)
-step_code around site (Binary to op left right) =
+-- the code of a step that begins at this address, and whose check, if it is one, has this site
+abbrev pub step_code : Around → ℕ → ℕ → MidStep → List Inst
+step_code around at site (Const to word) = word_code 6 word ++ store_slot around.frame 6 to
+step_code around at site (Address to of) = named_code around of ++ store_slot around.frame 6 to
+step_code around at site (Move to from) = load_slot around.frame 6 from ++ store_slot around.frame 6 to
+step_code around at site (Unary to op operand) = load_slot around.frame 6 operand ++ (unary_code op ++ store_slot around.frame 6 to)
+step_code around at site (Binary to op left right) =
     load_slot around.frame 6 left ++ (load_slot around.frame 7 right ++ (binary_code op ∷ store_slot around.frame 6 to))
-step_code around site (Compare to op left right) =
+step_code around at site (Compare to op left right) =
     load_slot around.frame 6 left ++ (load_slot around.frame 7 right ++ (compare_code op ++ store_slot around.frame 6 to))
-step_code around site (Load to width a) = load_slot around.frame 6 a ++ (load_code width ∷ store_slot around.frame 6 to)
-step_code around site (Store width a value) = load_slot around.frame 6 a ++ (load_slot around.frame 7 value ++ (store_code width ∷ []))
-step_code around site (Jump label) = jump_code (around.place label)
-step_code around site (Branch condition label) = load_slot around.frame 6 condition ++ (Beq 6 0 (pos 24) ∷ jump_code (around.place label))
-step_code around site (Call to f arguments) =
+step_code around at site (Load to width a) = load_slot around.frame 6 a ++ (load_code width ∷ store_slot around.frame 6 to)
+step_code around at site (Store width a value) = load_slot around.frame 6 a ++ (load_slot around.frame 7 value ++ (store_code width ∷ []))
+step_code around at site (Jump label) = jump_code at (around.place label)
+step_code around at site (Branch condition label) = load_slot around.frame 6 condition ++ (Beq 6 0 (pos 32) ∷ jump_code (at + 28) (around.place label))
+step_code around at site (Call to f arguments) =
     pass_code around.frame arguments.items ++ (number_code 6 (around.entries f) ++ (Jalr 1 6 (pos 0) ∷ store_slot around.frame 10 to))
-step_code around site (CallValue to target arguments marked) = value_code around.frame to target arguments.items marked
-step_code around site (Return value) = return_code around.frame value
-step_code around site (CheckStep condition which at) = load_slot around.frame 6 condition ++ (Bne 6 0 (pos 28) ∷ break_code which site)
-step_code around site (System call) = system_code around.frame call
+step_code around at site (CallValue to target arguments marked) = value_code around.frame to target arguments.items marked
+step_code around at site (Return value) = return_code around.frame value
+step_code around at site (CheckStep condition which source) = load_slot around.frame 6 condition ++ (Bne 6 0 (pos 28) ∷ break_code which site)
+step_code around at site (System call) = system_code around.frame call
 
 -- how many instructions these are
 abbrev pub step_size : MidStep → ℕ
@@ -230,8 +240,8 @@ step_size (Binary to op left right) = 19
 step_size (Compare to op left right) = 12 + (length (compare_code op) + 6)
 step_size (Load to width a) = 13
 step_size (Store width a value) = 13
-step_size (Jump label) = 5
-step_size (Branch condition label) = 12
+step_size (Jump label) = 7
+step_size (Branch condition label) = 14
 step_size (Call to f arguments) = 13 + 8 * length arguments.items + 11
 step_size (CallValue to target arguments marked) = value_size arguments.items marked
 step_size (Return value) = 13
@@ -249,9 +259,10 @@ abbrev pub step_calls : ℕ → MidStep → List ℕ
 step_calls at (CallValue to target arguments true) = (at + 4 * (6 + (registers_size arguments.items + (13 + 8 * length arguments.items)))) ∷ []
 step_calls at _ = []
 
-abbrev pub steps_code : Around → ℕ → List MidStep → List Inst
-steps_code around site [] = []
-steps_code around site (s ∷ ss) = step_code around site s ++ steps_code around (site + length (step_sites s)) ss
+-- the code of steps that begins at this address, and whose first check has this site
+abbrev pub steps_code : Around → ℕ → ℕ → List MidStep → List Inst
+steps_code around at site [] = []
+steps_code around at site (s ∷ ss) = step_code around at site s ++ steps_code around (at + 4 * step_size s) (site + length (step_sites s)) ss
 
 abbrev pub steps_size : List MidStep → ℕ
 steps_size [] = 0
@@ -282,8 +293,8 @@ enter_code frame site =
 abbrev pub enter_size : ℕ
 enter_size = 17
 
-abbrev pub proc_code : Around → ℕ → Proc → List Inst
-proc_code around site p = enter_code p.frame site ++ steps_code around (site + 1) p.steps
+abbrev pub proc_code : Around → ℕ → ℕ → Proc → List Inst
+proc_code around at site p = enter_code p.frame site ++ steps_code around (at + 4 * enter_size) (site + 1) p.steps
 
 abbrev pub proc_size : Proc → ℕ
 proc_size p = enter_size + steps_size p.steps
@@ -306,19 +317,24 @@ procs_before (p ∷ ps) (suc f) = proc_size p + procs_before ps f
 abbrev pub entry_of : Whole → ℕ → ℕ
 entry_of w f = text_start + 4 * (start_size + procs_before w.procedures f)
 
--- what surrounds the steps of a procedure whose code begins at this address
-abbrev pub around_of : Whole → ℕ → Proc → Around
-around_of w at p = record {
+-- what surrounds the steps of a procedure whose code begins at this address, among procedures that begin
+-- at these, and data that lie at these
+abbrev pub around_of : (ℕ → ℕ) → List ℕ → ℕ → Proc → Around
+around_of entries addresses at p = record {
   frame = p.frame;
   variables = p.variables;
   place = λ i. at + 4 * (enter_size + size_before p.steps i);
-  entries = entry_of w;
-  addresses = w.addresses;
+  entries = entries;
+  addresses = addresses;
 }
+
+-- the block of a procedure that begins at this address, and whose first check has this site
+abbrev pub block_code : (ℕ → ℕ) → List ℕ → ℕ → ℕ → Proc → List Inst
+block_code entries addresses at site p = proc_code (around_of entries addresses at p) at site p
 
 abbrev pub procs_code : Whole → ℕ → ℕ → List Proc → List Inst
 procs_code w at site [] = []
-procs_code w at site (p ∷ ps) = proc_code (around_of w at p) site p ++ procs_code w (at + 4 * proc_size p) (site + length (proc_sites p)) ps
+procs_code w at site (p ∷ ps) = block_code (entry_of w) w.addresses at site p ++ procs_code w (at + 4 * proc_size p) (site + length (proc_sites p)) ps
 
 abbrev pub procs_size : List Proc → ℕ
 procs_size [] = 0

@@ -1,6 +1,6 @@
 -- The ranges of an executable: the text, the store, the two regions, and the stack.
 use Rattle.std.specs.Prelude.{ℕ, length, slice_get, get_or, ◌<◌, ◌+◌, ◌-◌, ◌*◌, ◌/◌, ◌^◌, ◌≤◌, true, false, List, [], ◌∷◌}
-use Rattle.rv_table.specs.Run.{Range, Image}
+use Rattle.rv_table.specs.Run.{Range, Site, Image}
 use Rattle.odc_core.specs.Frames.{store_low, heap_low, heap_size, temp_low, temp_size, stack_low}
 use Rattle.odc_mid.specs.Tree.{Proc, Whole}
 use Rattle.odc_mid.specs.declared.tree.Named.{Named}
@@ -26,8 +26,12 @@ memory_ranges store size =
     memory_at stack_low (2 ^ 27) [] ∷
     []
 
+-- an image of a program with this text, these sites and these calls
+abbrev pub image_with : Whole → List ℕ → List Site → List ℕ → Image
+image_with w text sites calls = record { ranges = text_range text ∷ memory_ranges w.store w.store_size; entry = text_start; sites = sites; calls = calls }
+
 abbrev pub image_of : Whole → List ℕ → Image
-image_of w text = record { ranges = text_range text ∷ memory_ranges w.store w.store_size; entry = text_start; sites = sites_of w; calls = calls_of w }
+image_of w text = image_with w text (sites_of w) (calls_of w)
 
 -- ---- limits
 
@@ -73,10 +77,10 @@ AreSlots frame (t ∷ ts) = (8 * (t + 1) ≤ frame) × AreSlots frame ts
 abbrev pub IsSlot : ℕ → ℕ → Type 0
 IsSlot frame t = 8 * (t + 1) ≤ frame
 
-abbrev pub IsPlaced : Around → ℕ → Named → Type 0
-IsPlaced around procs (OfVariable x) = (x < length around.variables) × (offset_of (slice_get around.variables x) < 2 ^ 31)
-IsPlaced around procs (Stored n) = (n < length around.addresses) × (get_or around.addresses n 0 < 2 ^ 31)
-IsPlaced around procs (Procedure f) = (f < procs) × (around.entries f < 2 ^ 31)
+abbrev pub IsPlaced : Around → Named → Type 0
+IsPlaced around (OfVariable x) = (x < length around.variables) × (offset_of (slice_get around.variables x) < 2 ^ 31)
+IsPlaced around (Stored n) = Unit {0}
+IsPlaced around (Procedure f) = Unit {0}
 
 abbrev pub AreFew : List ℕ → Type 0
 AreFew ts = 8 * length ts < 2 ^ 31
@@ -86,24 +90,24 @@ AreSystemSlots frame (Read to a n) = IsSlot frame to × (IsSlot frame a × IsSlo
 AreSystemSlots frame (Write d a n) = IsSlot frame a × IsSlot frame n
 AreSystemSlots frame (Exit code) = IsSlot frame code
 
--- a step that can be emitted: its temporaries have slots, and what it names has a place below 2^31
-abbrev pub CanEmit : Around → ℕ → ℕ → MidStep → Type 0
-CanEmit around steps procs (Const to word) = IsSlot around.frame to
-CanEmit around steps procs (Address to of) = IsSlot around.frame to × IsPlaced around procs of
-CanEmit around steps procs (Move to from) = IsSlot around.frame to × IsSlot around.frame from
-CanEmit around steps procs (Unary to op operand) = IsSlot around.frame to × IsSlot around.frame operand
-CanEmit around steps procs (Binary to op left right) = IsSlot around.frame to × (IsSlot around.frame left × IsSlot around.frame right)
-CanEmit around steps procs (Compare to op left right) = IsSlot around.frame to × (IsSlot around.frame left × IsSlot around.frame right)
-CanEmit around steps procs (Load to width a) = IsSlot around.frame to × IsSlot around.frame a
-CanEmit around steps procs (Store width a value) = IsSlot around.frame a × IsSlot around.frame value
-CanEmit around steps procs (Jump label) = (label < steps) × (around.place label < 2 ^ 31)
-CanEmit around steps procs (Branch condition label) = IsSlot around.frame condition × ((label < steps) × (around.place label < 2 ^ 31))
-CanEmit around steps procs (Call to f arguments) = (IsSlot around.frame to × AreSlots around.frame arguments.items) × (AreFew arguments.items × ((f < procs) × (around.entries f < 2 ^ 31)))
-CanEmit around steps procs (CallValue to target arguments marked) = (IsSlot around.frame to × (IsSlot around.frame target × AreSlots around.frame arguments.items)) × AreFew arguments.items
-CanEmit around steps procs (Return value) = IsSlot around.frame value
-CanEmit around steps procs (Check condition which at) = IsSlot around.frame condition
-CanEmit around steps procs (System asked) = AreSystemSlots around.frame asked
+-- a step that can be emitted: its temporaries have slots, and its variables and labels lie below 2^31
+abbrev pub CanEmit : Around → ℕ → MidStep → Type 0
+CanEmit around steps (Const to word) = IsSlot around.frame to
+CanEmit around steps (Address to of) = IsSlot around.frame to × IsPlaced around of
+CanEmit around steps (Move to from) = IsSlot around.frame to × IsSlot around.frame from
+CanEmit around steps (Unary to op operand) = IsSlot around.frame to × IsSlot around.frame operand
+CanEmit around steps (Binary to op left right) = IsSlot around.frame to × (IsSlot around.frame left × IsSlot around.frame right)
+CanEmit around steps (Compare to op left right) = IsSlot around.frame to × (IsSlot around.frame left × IsSlot around.frame right)
+CanEmit around steps (Load to width a) = IsSlot around.frame to × IsSlot around.frame a
+CanEmit around steps (Store width a value) = IsSlot around.frame a × IsSlot around.frame value
+CanEmit around steps (Jump label) = (label < steps) × (around.place label < 2 ^ 31)
+CanEmit around steps (Branch condition label) = IsSlot around.frame condition × ((label < steps) × (around.place label < 2 ^ 31))
+CanEmit around steps (Call to f arguments) = (IsSlot around.frame to × AreSlots around.frame arguments.items) × AreFew arguments.items
+CanEmit around steps (CallValue to target arguments marked) = (IsSlot around.frame to × (IsSlot around.frame target × AreSlots around.frame arguments.items)) × AreFew arguments.items
+CanEmit around steps (Return value) = IsSlot around.frame value
+CanEmit around steps (Check condition which at) = IsSlot around.frame condition
+CanEmit around steps (System asked) = AreSystemSlots around.frame asked
 
-abbrev pub AllCanEmit : Around → ℕ → ℕ → List MidStep → Type 0
-AllCanEmit around steps procs [] = Unit {0}
-AllCanEmit around steps procs (s ∷ ss) = CanEmit around steps procs s × AllCanEmit around steps procs ss
+abbrev pub AllCanEmit : Around → ℕ → List MidStep → Type 0
+AllCanEmit around steps [] = Unit {0}
+AllCanEmit around steps (s ∷ ss) = CanEmit around steps s × AllCanEmit around steps ss

@@ -121,18 +121,20 @@ pub fn emit_branch(
     code: &mut Vec<Inst>,
     frame: u64,
     condition: u32,
-    place: u64,
+    at: u64,
+    to: u64,
 ) -> Result<(), AllocError>
-    requires { (frame ≤ 2 ^ 24) × ((8 * (condition + 1) ≤ frame) × (place < 2 ^ 31)) }
-    ensures { OnOk result (code.new.items ≡ code.old.items ++ (slot_loaded frame 6 condition ++ (Beq 6 0 (pos 24) ∷ jump_code place))) }
+    requires slot { (frame ≤ 2 ^ 24) × (8 * (condition + 1) ≤ frame) }
+    requires places { (at + 28 < 2 ^ 31) × (to < 2 ^ 31) }
+    ensures { OnOk result (code.new.items ≡ code.old.items ++ (slot_loaded frame 6 condition ++ (Beq 6 0 (pos 32) ∷ jump_code (at + 28) to))) }
 {
     load_slot(code, frame, 6, condition)?;
     code.push(Inst::Beq {
         rs1: 6,
         rs2: 0,
-        offset: 24,
+        offset: 32,
     })?;
-    emit_jump(code, place)
+    emit_jump(code, at + 28, to)
 }
 
 /// Appends the instructions of a check with its site.

@@ -1,10 +1,10 @@
 //! The instructions of each step.
 
-ghost use Rattle.std.specs.Prelude.{true, false, ◌≡◌, ℕ, ◌+◌, ◌*◌, ◌^◌, ◌<◌, ◌≤◌, pos, negsuc, [], ◌∷◌, ◌++◌, length, OnOk, IfOk};
+ghost use Rattle.std.specs.Prelude.{true, false, ◌≡◌, ℕ, ◌+◌, ◌-◌, ◌*◌, ◌^◌, ◌<◌, ◌≤◌, pos, negsuc, [], ◌∷◌, ◌++◌, length, OnOk, IfOk};
 ghost use Rattle.rv_table.specs.declared.inst.Inst.TheVariants.{Add, Addi, Bgeu, Ecall, Jalr, Ld, Sd, Sub, Slli, Srai};
 ghost use Rattle.odc_core.specs.declared.tree.UnaryOp.TheVariants.{Complement};
 ghost use Rattle.rv_emit.specs.Layout.{AreSlots};
-ghost use Rattle.rv_emit.specs.Code.{number_code, chunk_code, word_code, slot, load_slot as slot_loaded, store_slot as slot_stored, unary_code, binary_code, compare_code, load_code, store_code, jump_code, guard_code, arguments_code, pass_code, registers_code, value_code, return_code, break_code, descriptor_number as number_of_descriptor, enter_code, start_code};
+ghost use Rattle.rv_emit.specs.Code.{number_code, chunk_code, word_code, slot, load_slot as slot_loaded, store_slot as slot_stored, unary_code, binary_code, compare_code, load_code, store_code, distance as distance_between, way_code, jump_code, guard_code, arguments_code, pass_code, registers_code, value_code, return_code, break_code, descriptor_number as number_of_descriptor, enter_code, start_code};
 
 use odc_core::tree::{BinaryOp, Comparison, Descriptor, UnaryOp, Width};
 use odc_text::check::Check;
@@ -260,12 +260,33 @@ pub fn store_inst(width: Width) -> Inst
     }
 }
 
-/// Appends a jump to an address.
-pub fn emit_jump(code: &mut Vec<Inst>, place: u64) -> Result<(), AllocError>
-    requires { place < 2 ^ 31 }
-    ensures { OnOk result (code.new.items ≡ code.old.items ++ jump_code place) }
+/// How far it is from one address to another, up or down.
+fn distance(from: u64, to: u64) -> u64
+    ensures { result ≡ distance_between from to }
 {
-    emit_number(code, FIRST, place)?;
+    if to < from { from - to } else { to - from }
+}
+
+/// The instruction that goes this far from the address in `t1`.
+fn way_inst(from: u64, to: u64) -> Inst
+    ensures { result ≡ way_code from to }
+{
+    let (rd, rs1, rs2) = (FIRST, FIRST, SECOND);
+    if to < from {
+        Inst::Sub { rd, rs1, rs2 }
+    } else {
+        Inst::Add { rd, rs1, rs2 }
+    }
+}
+
+/// Appends a jump that begins at one address and goes to another.
+pub fn emit_jump(code: &mut Vec<Inst>, from: u64, to: u64) -> Result<(), AllocError>
+    requires { (from < 2 ^ 31) × (to < 2 ^ 31) }
+    ensures { OnOk result (code.new.items ≡ code.old.items ++ jump_code from to) }
+{
+    code.push(Inst::Auipc { rd: FIRST, imm: 0 })?;
+    emit_number(code, SECOND, distance(from, to))?;
+    code.push(way_inst(from, to))?;
     code.push(Inst::Jalr {
         rd: 0,
         rs1: FIRST,
@@ -492,21 +513,19 @@ pub fn emit_service(code: &mut Vec<Inst>, first: u64, number: u64) -> Result<(),
     Ok(())
 }
 
-/// Appends the instructions of a call of the procedure that begins at an address.
+/// Appends the instructions of a call of a procedure, with a hole for its entry.
 pub fn emit_call(
     code: &mut Vec<Inst>,
     frame: u64,
     to: u32,
-    entry: u64,
     arguments: &[u32],
 ) -> Result<(), AllocError>
     requires slots { (frame ≤ 2 ^ 24) × ((8 * (to + 1) ≤ frame) × AreSlots frame arguments.now) }
     requires few { 8 * length arguments.now < 2 ^ 31 }
-    requires entry { entry < 2 ^ 31 }
-    ensures { OnOk result (code.new.items ≡ code.old.items ++ (pass_code frame arguments.now ++ (number_code 6 entry ++ (Jalr 1 6 (pos 0) ∷ slot_stored frame 10 to)))) }
+    ensures { OnOk result (code.new.items ≡ code.old.items ++ (pass_code frame arguments.now ++ (number_code 6 0 ++ (Jalr 1 6 (pos 0) ∷ slot_stored frame 10 to)))) }
 {
     emit_pass(code, frame, arguments)?;
-    emit_number(code, FIRST, entry)?;
+    emit_number(code, FIRST, 0)?;
     emit_link(code, FIRST, frame, to)
 }
 

@@ -1,10 +1,12 @@
-//! How many instructions each step has, and where each block and each step's code begins.
+//! How many instructions each step has, where its code begins in its block, and where each block begins.
 
 ghost use Rattle.std.specs.Prelude.{◌≡◌, ℕ, ◌+◌, ◌*◌, ◌^◌, ◌<◌, ◌≤◌, length, map, IfOk};
 ghost use Rattle.odc_mid.specs.View.{proc};
 ghost use Rattle.rv_emit.specs.Tables.{IsTable};
-ghost use Rattle.rv_emit.specs.Code.{compare_code, text_start, start_size, enter_size, named_size as size_of_named, value_size as size_of_value, system_size as size_of_system, step_size as size_of_step, steps_size as size_of_steps, size_before as size_in_front, proc_size as size_of_proc, procs_size as size_of_procs, procs_before as size_of_procs_before};
+ghost use Rattle.rv_emit.specs.Code.{compare_code, start_size, named_size as size_of_named, value_size as size_of_value, system_size as size_of_system, step_size as size_of_step, steps_size as size_of_steps, proc_size as size_of_proc};
+ghost use Rattle.rv_emit.specs.Blocks.{bare, block, size_of_all, entry_in};
 
+use crate::unlinked::Block;
 use odc_core::tree::Comparison;
 use odc_mid::tree::{MidProcedure, MidStep, Named, SystemCall};
 use std::alloc::{AllocError, Global};
@@ -66,8 +68,8 @@ pub fn step_size(step: &MidStep) -> u64
         MidStep::Binary { .. } => 19,
         MidStep::Compare { op, .. } => compare_size(*op),
         MidStep::Load { .. } | MidStep::Store { .. } => 13,
-        MidStep::Jump { .. } => 5,
-        MidStep::Branch { .. } => 12,
+        MidStep::Jump { .. } => 7,
+        MidStep::Branch { .. } => 14,
         MidStep::Call { arguments, .. } => 24 + 8 * arguments.len() as u64,
         MidStep::CallValue {
             arguments,
@@ -99,40 +101,30 @@ pub fn proc_size(p: &MidProcedure) -> u64
     17 + steps_size(&p.steps)
 }
 
-/// Where the code of a procedure stands.
-#[derive(Drop)]
-pub struct Block {
-    /// The address of its first instruction.
-    pub at: u64,
-    /// The address of the code of each step.
-    pub places: Vec<u64>,
-}
-
-/// Where the code of each step stands, in a procedure whose code begins at an address.
-pub fn block_of(alloc: Global, q: &MidProcedure, at: u64) -> Result<Block, AllocError>
-    requires low { at + 4 * size_of_proc (proc q.now) < 2 ^ 32 }
-    ensures at { IfOk result (λ b. b.at ≡ at) }
-    ensures places { IfOk result (λ b. IsTable b.places.items (length q.now.steps.items) (λ i. at + 4 * (enter_size + size_in_front q.now.steps.items i))) }
+/// The offset of the code of each step in its block.
+pub fn places_of(alloc: Global, q: &MidProcedure) -> Result<Vec<u64>, AllocError>
+    requires low { 4 * size_of_proc (proc q.now) < 2 ^ 31 }
+    ensures { IfOk result (λ places. IsTable places.items (length q.now.steps.items) (bare (proc q.now)).place) }
 {
     let mut places = Vec::with_capacity(alloc, q.steps.len())?;
-    let mut next = at + 68;
+    let mut next = 68;
     for step in &q.steps {
         places.push(next)?;
         next += 4 * step_size(step);
     }
-    Ok(Block { at, places })
+    Ok(places)
 }
 
-/// The address of the first instruction of each procedure.
-pub fn entries_of(alloc: Global, procedures: &[MidProcedure]) -> Result<Vec<u64>, AllocError>
-    requires { 4 * (start_size + size_of_procs (map proc procedures.now)) ≤ 0x4fff_0000 }
-    ensures { IfOk result (λ entries. IsTable entries.items (length procedures.now) (λ f. text_start + 4 * (start_size + size_of_procs_before (map proc procedures.now) f))) }
+/// The address of the first instruction of each block.
+pub fn entries_of(alloc: Global, list: &[Block]) -> Result<Vec<u64>, AllocError>
+    requires { 4 * (start_size + size_of_all (map block list.now)) ≤ 0x4fff_0000 }
+    ensures { IfOk result (λ entries. IsTable entries.items (length list.now) (entry_in (map block list.now))) }
 {
-    let mut entries = Vec::with_capacity(alloc, procedures.len())?;
+    let mut entries = Vec::with_capacity(alloc, list.len())?;
     let mut next = 0x10028;
-    for p in procedures {
+    for b in list {
         entries.push(next)?;
-        next += 4 * proc_size(p);
+        next += 4 * b.code.len() as u64;
     }
     Ok(entries)
 }

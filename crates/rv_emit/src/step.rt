@@ -1,10 +1,11 @@
 //! The code of a step, whichever it is.
 
-ghost use Rattle.std.specs.Prelude.{◌≡◌, ℕ, ◌+◌, ◌*◌, ◌^◌, ◌<◌, ◌≤◌, ◌++◌, pos, [], ◌∷◌, length, map, OnOk, IfOk};
+ghost use Rattle.std.specs.Prelude.{◌≡◌, ℕ, ◌+◌, ◌*◌, ◌^◌, ◌<◌, ◌≤◌, ◌++◌, pos, [], ◌∷◌, length, OnOk, IfOk};
 ghost use Rattle.rv_table.specs.declared.inst.Inst.TheVariants.{Add, Addi, Ecall};
-ghost use Rattle.odc_mid.specs.View.{proc, program};
+ghost use Rattle.odc_mid.specs.View.{proc};
 ghost use Rattle.odc_mid.specs.declared.tree.SystemCall.TheVariants.{Read, Write, Exit};
-ghost use Rattle.rv_emit.specs.Code.{descriptor_number as number_of_descriptor, store_slot as slot_stored, around_of, entry_of, named_code, number_code, system_code, step_code, step_sites, steps_code, steps_sites, proc_code, proc_sites, proc_size as size_of_proc, steps_size as size_of_steps};
+ghost use Rattle.rv_emit.specs.Code.{descriptor_number as number_of_descriptor, store_slot as slot_stored, named_code, number_code, enter_size, system_code, step_code, step_sites, steps_code, step_size as size_of_step, proc_size as size_of_proc};
+ghost use Rattle.rv_emit.specs.Blocks.{bare, bare_code};
 ghost use Rattle.rv_emit.specs.Layout.{AreSystemSlots, IsPlaced, CanEmit, AllCanEmit};
 ghost use Rattle.rv_emit.specs.Tables.{IsTable};
 
@@ -16,9 +17,9 @@ use crate::emit::{
     emit_call, emit_enter, emit_jump, emit_marked_call, emit_number, emit_plain_call, emit_return,
     emit_service, load_slot, store_slot,
 };
-use crate::sizes::{Block, block_of};
+use crate::sizes::{places_of, step_size};
 use odc_core::tree::Descriptor;
-use odc_mid::tree::{MidProcedure, MidProgram, MidStep, Named, SystemCall};
+use odc_mid::tree::{MidProcedure, MidStep, Named, SystemCall};
 use rv_table::inst::Inst;
 use std::alloc::{AllocError, Global};
 
@@ -96,22 +97,15 @@ fn emit_system(code: &mut Vec<Inst>, frame: u64, call: SystemCall) -> Result<(),
     }
 }
 
-/// Appends the instructions that put an address into `t1`.
-fn emit_named(
-    code: &mut Vec<Inst>,
-    p: &MidProgram,
-    entries: &[u64],
-    q: &MidProcedure,
-    of: Named,
-) -> Result<(), AllocError>
-    requires placed { IsPlaced (around_of (program p.now) 0 (proc q.now)) (length p.now.procedures.items) of }
-    requires entries { IsTable entries.now (length p.now.procedures.items) (entry_of (program p.now)) }
-    ensures { OnOk result (code.new.items ≡ code.old.items ++ named_code (around_of (program p.now) 0 (proc q.now)) of) }
+/// Appends the instructions that put an address into `t1`, or that have a hole for it.
+fn emit_named(code: &mut Vec<Inst>, q: &MidProcedure, of: Named) -> Result<(), AllocError>
+    requires placed { IsPlaced (bare (proc q.now)) of }
+    ensures { OnOk result (code.new.items ≡ code.old.items ++ named_code (bare (proc q.now)) of) }
 {
     match of {
         Named::Variable(x) => emit_offset(code, u64::from(q.variables[x as usize].offset)),
-        Named::Stored(n) => emit_number(code, 6, p.addresses[n as usize]),
-        Named::Procedure(f) => emit_number(code, 6, entries[f as usize]),
+        Named::Stored(_) => emit_number(code, 6, 0),
+        Named::Procedure(_) => emit_number(code, 6, 0),
     }
 }
 
@@ -132,43 +126,40 @@ fn emit_offset(code: &mut Vec<Inst>, offset: u64) -> Result<(), AllocError>
 /// Appends the instructions of an address.
 fn emit_address(
     code: &mut Vec<Inst>,
-    p: &MidProgram,
-    entries: &[u64],
     q: &MidProcedure,
     to: u32,
     of: Named,
 ) -> Result<(), AllocError>
-    requires placed { IsPlaced (around_of (program p.now) 0 (proc q.now)) (length p.now.procedures.items) of }
-    requires entries { IsTable entries.now (length p.now.procedures.items) (entry_of (program p.now)) }
+    requires placed { IsPlaced (bare (proc q.now)) of }
     requires slot { (q.now.frame ≤ 2 ^ 24) × (8 * (to + 1) ≤ q.now.frame) }
-    ensures { OnOk result (code.new.items ≡ code.old.items ++ (named_code (around_of (program p.now) 0 (proc q.now)) of ++ slot_stored q.now.frame 6 to)) }
+    ensures { OnOk result (code.new.items ≡ code.old.items ++ (named_code (bare (proc q.now)) of ++ slot_stored q.now.frame 6 to)) }
 {
     let frame = u64::from(q.frame);
-    emit_named(code, p, entries, q, of)?;
+    emit_named(code, q, of)?;
     store_slot(code, frame, 6, to)
 }
 
-/// Appends the instructions of a step of a procedure whose code is this block; a check has this site.
+/// Appends the instructions of a step that begins at an offset in its block. `places` are the offsets of
+/// all steps; a check has this site in the block.
 pub fn emit_step(
     code: &mut Vec<Inst>,
-    p: &MidProgram,
-    entries: &[u64],
     q: &MidProcedure,
-    block: &Block,
+    places: &[u64],
+    at: u64,
     site: u64,
     step: &MidStep,
 ) -> Result<(), AllocError>
-    requires can { CanEmit (around_of (program p.now) block.now.at (proc q.now)) (length q.now.steps.items) (length p.now.procedures.items) step.now }
+    requires can { CanEmit (bare (proc q.now)) (length q.now.steps.items) step.now }
     requires frame { q.now.frame ≤ 2 ^ 24 }
-    requires entries { IsTable entries.now (length p.now.procedures.items) (entry_of (program p.now)) }
-    requires places { IsTable block.now.places.items (length q.now.steps.items) (around_of (program p.now) block.now.at (proc q.now)).place }
+    requires places { IsTable places.now (length q.now.steps.items) (bare (proc q.now)).place }
+    requires at { at + 4 * size_of_step step.now < 2 ^ 31 }
     requires site { site < 2 ^ 31 }
-    ensures { OnOk result (code.new.items ≡ code.old.items ++ step_code (around_of (program p.now) block.now.at (proc q.now)) site step.now) }
+    ensures { OnOk result (code.new.items ≡ code.old.items ++ step_code (bare (proc q.now)) at site step.now) }
 {
     let frame = u64::from(q.frame);
     match step {
         MidStep::Const { to, word } => emit_const(code, frame, *to, *word),
-        MidStep::Address { to, of } => emit_address(code, p, entries, q, *to, *of),
+        MidStep::Address { to, of } => emit_address(code, q, *to, *of),
         MidStep::Move { to, from } => emit_move(code, frame, *to, *from),
         MidStep::Unary { to, op, operand } => emit_unary_step(code, frame, *to, *op, *operand),
         MidStep::Binary {
@@ -189,15 +180,15 @@ pub fn emit_step(
             address,
             value,
         } => emit_store(code, frame, *width, *address, *value),
-        MidStep::Jump { label } => emit_jump(code, block.places[*label as usize]),
+        MidStep::Jump { label } => emit_jump(code, at, places[*label as usize]),
         MidStep::Branch { condition, label } => {
-            emit_branch(code, frame, *condition, block.places[*label as usize])
+            emit_branch(code, frame, *condition, at, places[*label as usize])
         }
         MidStep::Call {
             to,
-            procedure,
+            procedure: _,
             arguments,
-        } => emit_call(code, frame, *to, entries[*procedure as usize], arguments),
+        } => emit_call(code, frame, *to, arguments),
         MidStep::CallValue {
             to,
             target,
@@ -230,52 +221,35 @@ fn site_count(step: &MidStep) -> u64
     }
 }
 
-/// Appends the instructions of all steps of a procedure; their sites begin with this one. Gives the
-/// number behind their last site.
-fn emit_steps(
-    code: &mut Vec<Inst>,
-    p: &MidProgram,
-    entries: &[u64],
-    q: &MidProcedure,
-    block: &Block,
-    site: u64,
-) -> Result<u64, AllocError>
-    requires can { AllCanEmit (around_of (program p.now) block.now.at (proc q.now)) (length q.now.steps.items) (length p.now.procedures.items) q.now.steps.items }
+/// Appends the instructions of all steps of a procedure. They begin behind its entry, and their sites
+/// behind that of its stack check.
+fn emit_steps(code: &mut Vec<Inst>, q: &MidProcedure, places: &[u64]) -> Result<(), AllocError>
+    requires can { AllCanEmit (bare (proc q.now)) (length q.now.steps.items) q.now.steps.items }
     requires frame { q.now.frame ≤ 2 ^ 24 }
-    requires entries { IsTable entries.now (length p.now.procedures.items) (entry_of (program p.now)) }
-    requires places { IsTable block.now.places.items (length q.now.steps.items) (around_of (program p.now) block.now.at (proc q.now)).place }
-    requires sites { site + size_of_steps q.now.steps.items < 2 ^ 31 }
-    ensures code { OnOk result (code.new.items ≡ code.old.items ++ steps_code (around_of (program p.now) block.now.at (proc q.now)) site q.now.steps.items) }
-    ensures next { IfOk result (λ next. next ≡ site + length (steps_sites q.now.steps.items)) }
+    requires places { IsTable places.now (length q.now.steps.items) (bare (proc q.now)).place }
+    requires low { 4 * size_of_proc (proc q.now) < 2 ^ 31 }
+    ensures { OnOk result (code.new.items ≡ code.old.items ++ steps_code (bare (proc q.now)) (4 * enter_size) 1 q.now.steps.items) }
 {
-    let mut next = site;
+    let mut at = 68;
+    let mut site = 1;
     for step in &q.steps {
-        emit_step(code, p, entries, q, block, next, step)?;
-        next += site_count(step);
+        emit_step(code, q, places, at, site, step)?;
+        at += 4 * step_size(step);
+        site += site_count(step);
     }
-    Ok(next)
+    Ok(())
 }
 
-/// Appends the block of a procedure whose code begins at an address: its entry, and its steps; their
-/// sites begin with this one. Gives the number behind the last site.
-pub fn emit_proc(
-    alloc: Global,
-    code: &mut Vec<Inst>,
-    p: &MidProgram,
-    entries: &[u64],
-    q: &MidProcedure,
-    at: u64,
-    site: u64,
-) -> Result<u64, AllocError>
-    requires can { AllCanEmit (around_of (program p.now) at (proc q.now)) (length q.now.steps.items) (length p.now.procedures.items) q.now.steps.items }
+/// The code of a procedure: its entry, and its steps. Holes hold 0 or the block's own number of a site.
+pub fn emit_proc(alloc: Global, q: &MidProcedure) -> Result<Vec<Inst>, AllocError>
+    requires can { AllCanEmit (bare (proc q.now)) (length q.now.steps.items) q.now.steps.items }
     requires frame { q.now.frame ≤ 2 ^ 24 }
-    requires entries { IsTable entries.now (length p.now.procedures.items) (entry_of (program p.now)) }
-    requires low { at + 4 * size_of_proc (proc q.now) < 2 ^ 32 }
-    requires sites { site + size_of_proc (proc q.now) < 2 ^ 31 }
-    ensures code { OnOk result (code.new.items ≡ code.old.items ++ proc_code (around_of (program p.now) at (proc q.now)) site (proc q.now)) }
-    ensures next { IfOk result (λ next. next ≡ site + length (proc_sites (proc q.now))) }
+    requires low { 4 * size_of_proc (proc q.now) < 2 ^ 31 }
+    ensures { IfOk result (λ code. code.items ≡ bare_code (proc q.now)) }
 {
-    let block = block_of(alloc, q, at)?;
-    emit_enter(code, u64::from(q.frame), site)?;
-    emit_steps(code, p, entries, q, &block, site + 1)
+    let places = places_of(alloc, q)?;
+    let mut code = Vec::new(alloc);
+    emit_enter(&mut code, u64::from(q.frame), 0)?;
+    emit_steps(&mut code, q, &places)?;
+    Ok(code)
 }

@@ -5,8 +5,9 @@ ghost use Rattle.odc_mid.specs.Tree.{Whole};
 ghost use Rattle.odc_mid.specs.View.{proc, program};
 ghost use Rattle.odc_mid.specs.Well.{IsWell, IsWellProc, parameters_of};
 
-use crate::image::image;
+use crate::image::{emit, image};
 use crate::limits::{have_slots, is_short};
+use crate::unlinked::HoleKind;
 use odc_mid::tree::{MidProcedure, MidProgram, MidStep};
 use odc_text::check::Check;
 use odc_text::place::{FileId, Place};
@@ -46,10 +47,10 @@ const CALL: [u32; 32] = [
     0x00030313, 0x000300e7, 0x000003b7, 0x00838393, 0x00838393, 0x00038393, 0x002383b3, 0x00a3b023,
 ];
 
-/// The branch by the temporary 1 to the last step, whose code stands at 0x10400.
-const BRANCH: [u32; 12] = [
-    0x00000337, 0x00830313, 0x00830313, 0x00030313, 0x00230333, 0x00033303, 0x00030c63, 0x00010337,
-    0x20030313, 0x20030313, 0x00030313, 0x00030067,
+/// The branch by the temporary 1 to the last step, whose code stands 92 bytes behind the jump.
+const BRANCH: [u32; 14] = [
+    0x00000337, 0x00830313, 0x00830313, 0x00030313, 0x00230333, 0x00033303, 0x02030063, 0x00000317,
+    0x000003b7, 0x02e38393, 0x02e38393, 0x00038393, 0x00730333, 0x00030067,
 ];
 
 /// The answer in `a0`, the frame given up, and back.
@@ -164,14 +165,14 @@ fn a_text_has_the_words_of_the_manual(rt: HostRuntime) -> Result<(), Fail> {
     assert!(rt; have_slots(&p));
     assert!(rt; is_short(&p));
     let image = image(alloc, &p)?;
-    assert_eq!(rt; image.text.len(), 4 * 269);
+    assert_eq!(rt; image.text.len(), 4 * 271);
     assert!(rt; holds(&image.text, 0, &START));
     assert!(rt; holds(&image.text, 150, &ENTRY));
     assert!(rt; holds(&image.text, 167, &CONST));
     assert!(rt; holds(&image.text, 183, &CHECK));
     assert!(rt; holds(&image.text, 196, &CALL));
     assert!(rt; holds(&image.text, 228, &BRANCH));
-    assert!(rt; holds(&image.text, 256, &RETURN));
+    assert!(rt; holds(&image.text, 258, &RETURN));
     Ok(())
 }
 
@@ -190,6 +191,29 @@ fn checks_have_sites_and_allocators_have_calls(rt: HostRuntime) -> Result<(), Fa
     }
     assert_eq!(rt; image.calls.as_slice(), [0x10208].as_slice());
     assert!(rt; holds(&image.text, 130, &[0x000280e7]));
+    Ok(())
+}
+
+#[test]
+fn blocks_have_holes_in_order(rt: HostRuntime) -> Result<(), Fail> {
+    let alloc = rt.alloc();
+    let p = both(alloc)?;
+    assert!(rt; have_slots(&p));
+    assert!(rt; is_short(&p));
+    let b = emit(alloc, &p)?;
+    assert_eq!(rt; b.list.len(), 2);
+    assert_eq!(rt; b.main, 1);
+    let block = &b.list[1];
+    assert_eq!(rt; block.name.as_str(), "checking");
+    assert_eq!(rt; block.code.len(), 121);
+    // The stack check at 6, the check of the second step at 33 + 8, the call of the third at 46 + 21.
+    let wants: [u32; 3] = [6, 41, 67];
+    assert_eq!(rt; block.holes.len(), wants.len());
+    for (hole, want) in block.holes.iter().zip(wants) {
+        assert_eq!(rt; hole.at, want);
+    }
+    assert!(rt; matches!(block.holes[2].kind, HoleKind::Procedure));
+    assert_eq!(rt; b.list[0].calls.as_slice(), [120].as_slice());
     Ok(())
 }
 

@@ -1,11 +1,8 @@
-use Rattle.std.proofs.Common.{◌≡◌, ◌+◌, ◌*◌, map}
-use Rattle.odc_mid.specs.View.{proc}
-use Rattle.rv_emit.specs.Code.{text_start, start_size, procs_before}
+use Rattle.std.proofs.Common.{◌≡◌, map}
+use Rattle.rv_emit.specs.Blocks.{block, entry_in}
 use Rattle.rv_emit.specs.Tables.{IsTable}
 use Rattle.rv_emit.proofs.sizes.entries_of.Given as goal
 
--- the procedures so far have their entries, and the next one has the next address
-abbrev pub invariant-loop-p : goal.invariant-loop-p
-invariant-loop-p l =
-    IsTable l.entries.items l.p-index (λ f. text_start + 4 * (start_size + procs_before (map proc l.procedures) f))
-    × (l.next ≡ text_start + 4 * (start_size + procs_before (map proc l.procedures) l.p-index))
+-- the blocks so far have their entries, and the next one has the next address
+abbrev pub invariant-loop-b : goal.invariant-loop-b
+invariant-loop-b l = IsTable l.entries.items l.b-index (entry_in (map block l.list)) × (l.next ≡ entry_in (map block l.list) l.b-index)
