@@ -26,18 +26,18 @@ three a b c m n k p q r = omega (arith, weight_join a (join b c), weight_join b 
 
 -- ---- printing
 
-print_weight : (o : Own) (d b : ℕ) → stmts_weight (print_code o d b) ≤ 1108
+print_weight : (o : Own) (d b : ℕ) → stmts_weight (print_code o d b) ≤ 1132
 print_weight o d b = lit≤ tt
 
-values_weight : (o : Own) (d n : ℕ) → stmts_weight (values_code o d n) ≤ 1108 * n
+values_weight : (o : Own) (d n : ℕ) → stmts_weight (values_code o d n) ≤ 1132 * n
 values_weight o d zero = lit≤ tt
 values_weight o d (suc zero) = print_weight o d 10
 values_weight o d (suc (suc n)) =
-    let all : stmts_weight (join (print_code o d 32) (values_code o (d + 1) (suc n))) ≤ 1108 + 1108 * suc n =
-    two (print_code o d 32) (values_code o (d + 1) (suc n)) 1108 (1108 * suc n) (print_weight o d 32) (values_weight o (d + 1) (suc n)) in
+    let all : stmts_weight (join (print_code o d 32) (values_code o (d + 1) (suc n))) ≤ 1132 + 1132 * suc n =
+    two (print_code o d 32) (values_code o (d + 1) (suc n)) 1132 (1132 * suc n) (print_weight o d 32) (values_weight o (d + 1) (suc n)) in
     omega (arith, all)
 
-line_weight : (o : Own) (d n : ℕ) → stmts_weight (line_code o d n) ≤ 1108 * n + 334
+line_weight : (o : Own) (d n : ℕ) → stmts_weight (line_code o d n) ≤ 1132 * n + 334
 line_weight o d zero = lit≤ tt
 line_weight o d (suc n) = omega (arith, values_weight o d (suc n))
 

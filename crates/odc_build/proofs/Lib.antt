@@ -4,3 +4,4 @@ mod Rooms
 mod Widths
 mod Limits
 mod Whole
+mod Counts

@@ -112,10 +112,10 @@ mutual
 
 -- ---- statements
 
-copy_weighs : (d p : ℕ) → plain_sizes (copy_code d p) ≤ 720
+copy_weighs : (d p : ℕ) → plain_sizes (copy_code d p) ≤ 760
 copy_weighs d p = lit≤ tt
 
-zero_weighs : (d p : ℕ) → plain_sizes (zero_code d p) ≤ 280
+zero_weighs : (d p : ℕ) → plain_sizes (zero_code d p) ≤ 300
 zero_weighs d p = lit≤ tt
 
 mutual
@@ -125,27 +125,27 @@ mutual
       three (expr_code d to) (expr_code (d + 1) value) (store_step width d (d + 1) ∷ []) (expr_weight to) (expr_weight value) 13 (expr_weighs to d) (expr_weighs value (d + 1)) (lit≤ tt)
   stmt_weighs (copy to from size) d exits p =
       let q : ℕ = p + expr_nodes to + expr_nodes from + expr_nodes size in
-      four (expr_code d to) (expr_code (d + 1) from) (expr_code (d + 2) size) (copy_code d q) (expr_weight to) (expr_weight from) (expr_weight size) 720
+      four (expr_code d to) (expr_code (d + 1) from) (expr_code (d + 2) size) (copy_code d q) (expr_weight to) (expr_weight from) (expr_weight size) 760
       (expr_weighs to d) (expr_weighs from (d + 1)) (expr_weighs size (d + 2)) (copy_weighs d q)
   stmt_weighs (zero_bytes to size) d exits p =
       let q : ℕ = p + expr_nodes to + expr_nodes size in
-      three (expr_code d to) (expr_code (d + 1) size) (zero_code d q) (expr_weight to) (expr_weight size) 280 (expr_weighs to d) (expr_weighs size (d + 1)) (zero_weighs d q)
+      three (expr_code d to) (expr_code (d + 1) size) (zero_code d q) (expr_weight to) (expr_weight size) 300 (expr_weighs to d) (expr_weighs size (d + 1)) (zero_weighs d q)
   stmt_weighs (choose condition first second) d exits p =
       let other : ℕ = p + expr_nodes condition + 1 in
       let begin : ℕ = other + stmts_size second + 1 in
       let last : List Step = jump_step (begin + stmts_size first) ∷ stmts_code d exits begin first in
-      let b : plain_sizes last ≤ stmts_weight first + 5 = omega (arith, stmts_weigh first d exits begin) in
-      let c : plain_sizes (stmts_code d exits other second ++ last) ≤ stmts_weight second + (stmts_weight first + 5) =
-      two (stmts_code d exits other second) last (stmts_weight second) (stmts_weight first + 5) (stmts_weigh second d exits other) b in
-      let e : plain_sizes (branch_step d begin ∷ (stmts_code d exits other second ++ last)) ≤ 12 + (stmts_weight second + (stmts_weight first + 5)) = omega (arith, c) in
-      let all : plain_sizes (expr_code d condition ++ (branch_step d begin ∷ (stmts_code d exits other second ++ last))) ≤ expr_weight condition + (12 + (stmts_weight second + (stmts_weight first + 5))) =
-      two (expr_code d condition) (branch_step d begin ∷ (stmts_code d exits other second ++ last)) (expr_weight condition) (12 + (stmts_weight second + (stmts_weight first + 5)))
+      let b : plain_sizes last ≤ stmts_weight first + 7 = omega (arith, stmts_weigh first d exits begin) in
+      let c : plain_sizes (stmts_code d exits other second ++ last) ≤ stmts_weight second + (stmts_weight first + 7) =
+      two (stmts_code d exits other second) last (stmts_weight second) (stmts_weight first + 7) (stmts_weigh second d exits other) b in
+      let e : plain_sizes (branch_step d begin ∷ (stmts_code d exits other second ++ last)) ≤ 14 + (stmts_weight second + (stmts_weight first + 7)) = omega (arith, c) in
+      let all : plain_sizes (expr_code d condition ++ (branch_step d begin ∷ (stmts_code d exits other second ++ last))) ≤ expr_weight condition + (14 + (stmts_weight second + (stmts_weight first + 7))) =
+      two (expr_code d condition) (branch_step d begin ∷ (stmts_code d exits other second ++ last)) (expr_weight condition) (14 + (stmts_weight second + (stmts_weight first + 7)))
       (expr_weighs condition d) e in
       omega (arith, all)
   stmt_weighs (repeat body) d exits p =
       let inner : List ℕ = (p + 1 + stmts_size body + 1) ∷ exits in
-      let all : plain_sizes (stmts_code d inner (p + 1) body ++ (jump_step (p + 1) ∷ [])) ≤ stmts_weight body + 5 =
-      two (stmts_code d inner (p + 1) body) (jump_step (p + 1) ∷ []) (stmts_weight body) 5 (stmts_weigh body d inner (p + 1)) (lit≤ tt) in
+      let all : plain_sizes (stmts_code d inner (p + 1) body ++ (jump_step (p + 1) ∷ [])) ≤ stmts_weight body + 7 =
+      two (stmts_code d inner (p + 1) body) (jump_step (p + 1) ∷ []) (stmts_weight body) 7 (stmts_weigh body d inner (p + 1)) (lit≤ tt) in
       omega (arith, all)
   stmt_weighs (leave depth) d exits p = lit≤ tt
   stmt_weighs (answer value) d exits p = two (expr_code d value) (return_step d ∷ []) (expr_weight value) 13 (expr_weighs value d) (lit≤ tt)

@@ -60,7 +60,7 @@ weaker a b c d f p q input le more k = record {
       (x.0, x.1, more_costs a b (p input n).cost c d (q input x.0).cost le more x.2);
 }
 
-module _ (w : Whole) (q : MidWhole) (lowered : IsLowered (crossed_program w) q) (well : IsWell w) (text : List ℕ) (kept : LowerKeeps (crossed_program w) q) (emitted : EmitKeeps q text) where
+module _ (w : Whole) (q : MidWhole) (lowered : IsLowered (crossed_program w) q) (well : IsWell w) (text : List ℕ) (kept : LowerKeeps (crossed_program w) q) (emitted : EmitKeeps (entry_of q) q (image_of q text)) where
   -- the source run, core code, mid code, the machine
   pub all_kept : KeepsAll (entry_of q) w (image_of q text)
   all_kept input bytes =
@@ -81,7 +81,7 @@ all_followed entries w image k input bytes =
     keeps_follows_on (step_cost w * 1200) (step_cost w * 2 + 18) (placed entries) (source w) (machine image) input (k input bytes)
 
 -- what is built of a program
-pub all_built : (w : Whole) (q : MidWhole) → IsLowered (crossed_program w) q → IsWell w → (text : List ℕ) → LowerKeeps (crossed_program w) q → EmitKeeps q text → (image : Image) → image ≡ image_of q text → IsBuilt w image
+pub all_built : (w : Whole) (q : MidWhole) → IsLowered (crossed_program w) q → IsWell w → (text : List ℕ) → LowerKeeps (crossed_program w) q → EmitKeeps (entry_of q) q (image_of q text) → (image : Image) → image ≡ image_of q text → IsBuilt w image
 all_built w q lowered well text kept emitted image same =
     let keeps' : KeepsAll (entry_of q) w image = subst (λ (i : Image). KeepsAll (entry_of q) w i) (sym same) (all_kept w q lowered well text kept emitted) in
     record { entry_of = entry_of q; kept = keeps'; followed = all_followed (entry_of q) w image keeps' }

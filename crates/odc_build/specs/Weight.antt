@@ -16,8 +16,8 @@ plain_size (binary_step to op left right) = 19
 plain_size (compare_step to op left right) = 12 + (length (compare_code op) + 6)
 plain_size (load_step to width a) = 13
 plain_size (store_step width a value) = 13
-plain_size (jump_step label) = 5
-plain_size (branch_step condition label) = 12
+plain_size (jump_step label) = 7
+plain_size (branch_step condition label) = 14
 plain_size (call_step to f arguments) = 13 + 8 * length arguments + 11
 plain_size (call_value_step to target arguments marked) = value_size arguments marked
 plain_size (return_step value) = 13
@@ -50,11 +50,11 @@ abbrev mutual
   pub stmt_weight : Stmt → ℕ
   stmt_weight (eval value) = expr_weight value
   stmt_weight (store width to value) = expr_weight to + expr_weight value + 13
-  stmt_weight (copy to from size) = expr_weight to + expr_weight from + expr_weight size + 720
-  stmt_weight (zero_bytes to size) = expr_weight to + expr_weight size + 280
-  stmt_weight (choose condition first second) = expr_weight condition + stmts_weight first + stmts_weight second + 17
-  stmt_weight (repeat body) = stmts_weight body + 10
-  stmt_weight (leave depth) = 5
+  stmt_weight (copy to from size) = expr_weight to + expr_weight from + expr_weight size + 760
+  stmt_weight (zero_bytes to size) = expr_weight to + expr_weight size + 300
+  stmt_weight (choose condition first second) = expr_weight condition + stmts_weight first + stmts_weight second + 21
+  stmt_weight (repeat body) = stmts_weight body + 14
+  stmt_weight (leave depth) = 7
   stmt_weight (answer value) = expr_weight value + 13
   stmt_weight (check condition which place) = expr_weight condition + 13
   stmt_weight (read to size taken) = expr_weight to + expr_weight size + expr_weight taken + 34

@@ -1,7 +1,7 @@
 //! What the passes need together, as contracts of calls that do nothing: for each program of mid code that
 //! a typed program becomes through core code, however it was made.
 
-ghost use Rattle.std.specs.Prelude.{List, ◌+◌, ◌*◌, ◌≤◌, length};
+ghost use Rattle.std.specs.Prelude.{◌≡◌, List, ◌+◌, ◌*◌, ◌≤◌, length};
 ghost use Rattle.odc_typed.specs.Tree.{Proc, Whole};
 ghost use Rattle.odc_typed.specs.Frame.{variables};
 ghost use Rattle.odc_typed.specs.Nodes.{stmts_nodes, all_nodes};
@@ -12,6 +12,7 @@ ghost use Rattle.odc_lower.specs.Size.{stmts_nodes as core_nodes};
 ghost use Rattle.odc_mid.specs.Tree.{Whole as MidWhole};
 ghost use Rattle.rv_emit.specs.Code.{procs_size, variables_end};
 ghost use Rattle.rv_emit.specs.Layout.{AllHaveSlots, factor};
+ghost use Rattle.odc_build.specs.Counts.{proc_count};
 ghost use Rattle.odc_build.specs.Kept.{step_cost};
 
 /// A node becomes at most 1,240 instructions, and a procedure has at most 126 more.
@@ -34,6 +35,12 @@ pub fn steps_are_bounded()
 /// instructions.
 pub fn core_nodes_are_bounded()
     ensures { (ss : List Signature) (p : Proc) → IsWellProc ss p → 5 * core_nodes (body_code p) ≤ 1240 * stmts_nodes p.body + 77 }
+{}
+
+/// How many nodes of core code a procedure becomes: those of its statements and expressions by kind, and six
+/// more where it has a result.
+pub fn core_nodes_are_counted()
+    ensures { (p : Proc) → core_nodes (body_code p) ≡ proc_count p }
 {}
 
 /// Own variables, and those of the source, lie in the first bytes of a frame: 16 for each and for each value
