@@ -26,3 +26,6 @@ pub mod OperandAnswers
 pub mod CastLemmas
 pub mod ArgumentAnswers
 pub mod TypeLemmas
+pub mod EndLemmas
+pub mod EndChains
+pub mod PostfixEnds

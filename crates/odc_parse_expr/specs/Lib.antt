@@ -10,5 +10,9 @@ pub mod Forms
 pub mod Parts
 -- how lists go on behind an item
 pub mod Lists
+-- what a type is, by its first token
+pub mod TypeForms
+-- where types that are operands end
+pub mod Ends
 -- the worked cases
 pub mod Worked

@@ -7,6 +7,7 @@
 // function reads an expression yet.
 #![tactic(auto)]
 
+pub mod end;
 pub mod laws;
 pub mod lists;
 pub mod operand;
@@ -14,4 +15,5 @@ pub mod operators;
 pub mod stop;
 pub mod suffix;
 pub mod tokens;
+pub mod type_form;
 pub mod unary;
