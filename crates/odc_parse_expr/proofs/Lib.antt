@@ -11,7 +11,9 @@ pub mod BinaryLemmas
 pub mod ChainLemmas
 pub mod PostfixLemmas
 pub mod SuffixLemmas
+pub mod MoreLemmas
 pub mod ListLemmas
+pub mod ListAnswers
 pub mod ListRules
 pub mod BracketLemmas
 pub mod OperandLemmas
@@ -26,6 +28,13 @@ pub mod OperandAnswers
 pub mod CastLemmas
 pub mod ArgumentAnswers
 pub mod TypeLemmas
+pub mod TypeStarts
+pub mod LineLemmas
 pub mod EndLemmas
+pub mod NameTypes
+pub mod TypeAnswers
+pub mod ArrayAnswers
+pub mod NamesAnswers
+pub mod FieldAnswers
 pub mod EndChains
 pub mod PostfixEnds

@@ -1,7 +1,7 @@
 -- What a function answers that reads an operand, or a type that is one, and when that answer is right. A
 -- name that is a type ends before a `.` that no name follows; but as far as the `.` the tokens begin a name
 -- of a package, too. So one token more may have to be read until there is one reading.
-use Rattle.std.specs.Prelude.{◌≡◌, ℕ, ◌-◌, ◌*◌, ◌≤◌, Bool, false, List, ◌∷◌, ◌++◌, length, Result, Ok, Err}
+use Rattle.std.specs.Prelude.{◌≡◌, ℕ, ◌-◌, ◌*◌, ◌≤◌, Bool, true, false, List, ◌∷◌, ◌++◌, length, Result, Ok, Err}
 use Rattle.std.specs.Borrow.{Bor}
 use Rattle.odc_syntax.specs.declared.token.Token.{Token}
 use Rattle.odc_syntax.specs.declared.token.TokenKind.{TokenKind}
@@ -73,3 +73,15 @@ seen_to view (Err e) = refused e
 abbrev pub Over : End → List Token → Stop → Type 0
 Over Sure behind e = e ≡ stop.Deep (length behind)
 Over BeforeDot behind e = NotExpected OpenParen false behind e
+
+-- the type is an operand, or its end
+abbrev pub ends_operand : Use → Bool
+ends_operand Plain = false
+ends_operand Parameter = false
+ends_operand Operand = true
+ends_operand OperandEnd = true
+
+-- a value, its closing token, its depth, and the tokens behind them
+abbrev pub closed_by : {A V : Type 0} → (A → V) → Result (A × Token × ℕ × Bor (List Token)) Stop → Answer (V × (Token × Unit {0}))
+closed_by view (Ok r) = Yes (view r.0, (r.1, tt)) r.2 r.3.now
+closed_by view (Err e) = refused e

@@ -12,6 +12,7 @@ pub mod laws;
 pub mod lists;
 pub mod operand;
 pub mod operators;
+pub mod shape;
 pub mod stop;
 pub mod suffix;
 pub mod tokens;

@@ -1,0 +1,88 @@
+-- Parts of types that functions read of their own.
+use Rattle.std.specs.Prelude.{◌≡◌, Bool, true, false, List, [], ◌∷◌}
+use Rattle.odc_text.specs.declared.place.Place.{Place}
+use Rattle.odc_syntax.specs.declared.token.Token.{Token}
+use Rattle.odc_syntax.specs.declared.token.TokenKind.{TokenKind}
+use Rattle.odc_syntax.specs.declared.token.TokenKind.TheVariants as kind
+use Rattle.odc_syntax.specs.declared.token.Word.TheVariants as word
+use Rattle.odc_syntax.specs.declared.grammar.Use.{Use}
+use Rattle.odc_syntax.specs.declared.grammar.Use.TheVariants.{Plain, Parameter, Operand, OperandEnd}
+use Rattle.odc_syntax.specs.Tree.{Type_, Fields, Types, Enumerators, Params, Length}
+use Rattle.odc_syntax.specs.Tree as tree
+use Rattle.odc_syntax.specs.Grammar as g
+use Rattle.odc_parse_expr.specs.declared.shape.Shape.{Shape}
+use Rattle.odc_parse_expr.specs.declared.shape.Shape.TheVariants.{Array, Soa}
+use Rattle.odc_parse_expr.specs.Exact.{Part, then_, done, token}
+
+-- lists up to their closing tokens
+abbrev pub fields_line : Use → Part (Fields × (Token × Unit {0}))
+fields_line u = then_ (g.fields u) (then_ (token kind.CloseBrace) done)
+
+abbrev pub types_line : Use → Part (Types × (Token × Unit {0}))
+types_line u = then_ (g.types u) (then_ (token kind.CloseBrace) done)
+
+abbrev pub enumerators_line : Part (Enumerators × (Token × Unit {0}))
+enumerators_line = then_ g.enumerators (then_ (token kind.CloseBrace) done)
+
+abbrev pub params_line : Use → Part (Params × (Token × Unit {0}))
+params_line u = then_ (g.params u) (then_ (token kind.CloseParen) done)
+
+-- what stands in the square brackets of a type, up to the closing one
+abbrev pub length_line : Use → Part (Length × (Token × Unit {0}))
+length_line u = then_ (g.length u) (then_ (token kind.CloseBracket) done)
+
+-- a type with square brackets has been read up to what stands in them
+pub record BracketFirst (at : Place) (ts us : List Token) : Type 0 where
+  pub bracket : Token
+  pub is : ts ≡ bracket ∷ us
+  pub kind : bracket.kind ≡ kind.OpenBracket
+  pub place : bracket.at ≡ at
+
+pub record WordFirst (at : Place) (ts us : List Token) : Type 0 where
+  pub directive : Token
+  pub bracket : Token
+  pub is : ts ≡ directive ∷ bracket ∷ us
+  pub directive_kind : directive.kind ≡ kind.Directive
+  pub says : directive.word ≡ word.Soa
+  pub bracket_kind : bracket.kind ≡ kind.OpenBracket
+  pub place : directive.at ≡ at
+
+abbrev pub Bracketed : Shape → Place → List Token → List Token → Type 0
+Bracketed Array at ts us = BracketFirst at ts us
+Bracketed Soa at ts us = WordFirst at ts us
+
+abbrev pub shaped : Shape → Length → Type_ → tree.TypeKind
+shaped Array n t = tree.array n t
+shaped Soa n t = tree.soa n t
+
+-- a `?` in its brackets is followed by these tokens
+pub record Questioned (shape : Shape) (at : Place) (ts us : List Token) : Type 0 where
+  pub question : Token
+  pub kind : question.kind ≡ kind.Question
+  pub bracketed : Bracketed shape at ts (question ∷ us)
+
+abbrev pub opens_brace : TokenKind → Bool
+opens_brace kind.OpenBrace = true
+opens_brace _ = false
+
+abbrev pub starts_brace : List Token → Bool
+starts_brace [] = false
+starts_brace (t ∷ ts) = opens_brace t.kind
+
+-- the elements of `[?]T` are counted: those of the literal that follows
+abbrev pub counts : Use → List Token → Bool
+counts Plain rest = false
+counts Parameter rest = false
+counts Operand rest = starts_brace rest
+counts OperandEnd rest = false
+
+-- names between commas, up to a colon
+abbrev pub names_line : Part (List Token × (Token × Unit {0}))
+names_line c v = g.names v.0 ∷ g.tok kind.Colon v.1.0 ∷ []
+
+-- a field, and an enumerator
+abbrev pub field_item : Use → Part (List Token × (Token × Type_))
+field_item u c v = g.names v.0 ∷ g.tok kind.Colon v.1.0 ∷ g.type_ u c v.1.1 ∷ []
+
+abbrev pub enumerator_item : Part (Token × tree.MaybeExpr)
+enumerator_item c v = g.tok kind.Name v.0 ∷ g.given c v.1 ∷ []
