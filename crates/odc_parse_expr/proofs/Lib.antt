@@ -36,5 +36,8 @@ pub mod TypeAnswers
 pub mod ArrayAnswers
 pub mod NamesAnswers
 pub mod FieldAnswers
+pub mod TypeLists
+pub mod SignatureAnswers
+pub mod ParamAnswers
 pub mod EndChains
 pub mod PostfixEnds

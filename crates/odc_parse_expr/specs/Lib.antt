@@ -12,6 +12,8 @@ pub mod Parts
 pub mod Lists
 -- what a type is, by its first token
 pub mod TypeForms
+-- the clean forms of the parts of types
+pub mod TypeViews
 -- parts of types that functions read of their own
 pub mod TypeParts
 -- where types that are operands end

@@ -1,5 +1,5 @@
 -- Parts of types that functions read of their own.
-use Rattle.std.specs.Prelude.{◌≡◌, Bool, true, false, List, [], ◌∷◌}
+use Rattle.std.specs.Prelude.{◌≡◌, ℕ, Bool, true, false, List, [], ◌∷◌, Option, Some, None}
 use Rattle.odc_text.specs.declared.place.Place.{Place}
 use Rattle.odc_syntax.specs.declared.token.Token.{Token}
 use Rattle.odc_syntax.specs.declared.token.TokenKind.{TokenKind}
@@ -10,6 +10,7 @@ use Rattle.odc_syntax.specs.declared.grammar.Use.TheVariants.{Plain, Parameter, 
 use Rattle.odc_syntax.specs.Tree.{Type_, Fields, Types, Enumerators, Params, Length}
 use Rattle.odc_syntax.specs.Tree as tree
 use Rattle.odc_syntax.specs.Grammar as g
+use Rattle.odc_syntax.specs.Derives.{StartsWithout}
 use Rattle.odc_parse_expr.specs.declared.shape.Shape.{Shape}
 use Rattle.odc_parse_expr.specs.declared.shape.Shape.TheVariants.{Array, Soa}
 use Rattle.odc_parse_expr.specs.Exact.{Part, then_, done, token}
@@ -86,3 +87,31 @@ field_item u c v = g.names v.0 ∷ g.tok kind.Colon v.1.0 ∷ g.type_ u c v.1.1 
 
 abbrev pub enumerator_item : Part (Token × tree.MaybeExpr)
 enumerator_item c v = g.tok kind.Name v.0 ∷ g.given c v.1 ∷ []
+
+-- Parameters up to the closing parenthesis, where all that are given have names, and where none has.
+abbrev pub named_params : Use → ℕ → Params → Token → List g.Sym
+named_params u c tree.no_params k = g.tok kind.CloseParen k ∷ []
+named_params u c (tree.more_params p ps) k = g.named_param u c p ∷ g.more_named u c ps ∷ g.tok kind.CloseParen k ∷ []
+
+abbrev pub bare_params : Use → ℕ → Params → Token → List g.Sym
+bare_params u c tree.no_params k = g.tok kind.CloseParen k ∷ []
+bare_params u c (tree.more_params p ps) k = g.bare_param u c p ∷ g.more_bare u c ps ∷ g.tok kind.CloseParen k ∷ []
+
+abbrev pub named_line : Use → Part (Params × (Token × Unit {0}))
+named_line u c v = named_params u c v.0 v.1.0
+
+abbrev pub bare_line : Use → Part (Params × (Token × Unit {0}))
+bare_line u c v = bare_params u c v.0 v.1.0
+
+-- the string behind `proc`, if one stands there, and the tokens behind it
+pub record Called (ts : List Token) (t : Token) (us : List Token) : Type 0 where
+  pub is : ts ≡ t ∷ us
+  pub kind : t.kind ≡ kind.Text
+
+pub record Uncalled (ts us : List Token) : Type 0 where
+  pub is : us ≡ ts
+  pub none : StartsWithout kind.Text ts
+
+abbrev pub Convention : List Token → Option Token → List Token → Type 0
+Convention ts None us = Uncalled ts us
+Convention ts (Some t) us = Called ts t us

@@ -1,0 +1,38 @@
+-- The clean forms of the parts of types.
+use Rattle.std.specs.Prelude.{Box, List, [], ◌∷◌, Option, Some, None}
+use Rattle.std.specs.declared.alloc.Global.{Global}
+use Rattle.odc_syntax.specs.declared.token.Token.{Token}
+use Rattle.odc_syntax.specs.declared.tree.Expr.{Expr}
+use Rattle.odc_syntax.specs.declared.tree.«Type».{«Type»}
+use Rattle.odc_syntax.specs.declared.tree.Enumerator.{Enumerator}
+use Rattle.odc_syntax.specs.declared.tree.Param.{Param}
+use Rattle.odc_syntax.specs.declared.tree.Signature.{Signature}
+use Rattle.odc_syntax.specs.declared.tree.DeclKind.TheBlock as b
+use Rattle.odc_syntax.specs.Tree as tree
+use Rattle.odc_syntax.specs.View.{expr, type, param_kind, held_expr, held_signature}
+
+-- an expression or a type that may be left out
+abbrev pub given_expr : Option (Box Expr Global) → tree.MaybeExpr
+given_expr None = tree.no_expr
+given_expr (Some e) = tree.some_expr (expr e.value)
+
+abbrev pub given_type : Option (Box «Type» Global) → tree.MaybeType
+given_type None = tree.no_type
+given_type (Some t) = tree.some_type (type t.value)
+
+abbrev pub enumerator : Enumerator → Token × tree.MaybeExpr
+enumerator (b.struct-Enumerator n v) = (n, held_expr v)
+
+abbrev pub enumerators : List Enumerator → tree.Enumerators
+enumerators [] = tree.no_enumerators
+enumerators (e ∷ es) = tree.more_enumerators (enumerator e).0 (enumerator e).1 (enumerators es)
+
+abbrev pub param : Param → tree.Param
+param (b.struct-Param dollar ns ty d) = tree.param dollar ns.items (param_kind ty) (held_expr d)
+
+abbrev pub params : List Param → tree.Params
+params [] = tree.no_params
+params (p ∷ ps) = tree.more_params (param p) (params ps)
+
+abbrev pub signature : Signature → tree.Signature
+signature s = held_signature s
