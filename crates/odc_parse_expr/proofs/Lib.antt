@@ -41,3 +41,4 @@ pub mod SignatureAnswers
 pub mod ParamAnswers
 pub mod EndChains
 pub mod PostfixEnds
+pub mod RefusedLemmas

@@ -20,3 +20,5 @@ pub mod TypeParts
 pub mod Ends
 -- the worked cases
 pub mod Worked
+-- refused forms by their first token
+pub mod RefusedForms

@@ -13,8 +13,11 @@ pub mod lists;
 pub mod operand;
 pub mod operators;
 pub mod shape;
+pub mod refused;
 pub mod stop;
 pub mod suffix;
+#[cfg(test)]
+mod tests;
 pub mod tokens;
 pub mod type_form;
 pub mod unary;
