@@ -22,3 +22,15 @@ pub mod Ends
 pub mod Worked
 -- refused forms by their first token
 pub mod RefusedForms
+-- the kinds of tokens that go on with statements and declarations
+pub mod StatementSets
+-- parts of declarations that functions read of their own
+pub mod DeclarationParts
+-- names at the start of a statement
+pub mod Runs
+-- what a statement is, by its first token
+pub mod StatementForms
+-- parts of blocks and bodies that functions read of their own
+pub mod BodyParts
+-- the clean forms of what the functions on statements give
+pub mod Statements

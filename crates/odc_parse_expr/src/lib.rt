@@ -14,6 +14,7 @@ pub mod operand;
 pub mod operators;
 pub mod refused;
 pub mod shape;
+pub mod statement_form;
 pub mod stop;
 pub mod suffix;
 #[cfg(test)]
