@@ -3,8 +3,9 @@
 // (`proofs/Leading.antt`), a left-nested part item by item (`proofs/Chaining.antt`), a list up to its
 // closing token (`proofs/ListLemmas.antt`); the files named `Answers` have a lemma for each way that the
 // reading of an operand, of what stands behind it, of arguments, of a type, of a signature, of a declaration
-// and of a simple statement may end. The functions here say what tokens begin with, which operators they are, how lists go on, and where the first
-// refused form begins. It assumes nothing of the tokens. No function reads an expression yet.
+// and of a simple statement may end. The functions here say what tokens begin with, which operators they
+// are, how lists go on, and where the first refused form begins. It assumes nothing of the tokens. No
+// function reads an expression yet.
 #![tactic(auto)]
 
 pub mod end;
