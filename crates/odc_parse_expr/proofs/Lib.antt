@@ -40,6 +40,11 @@ pub mod FieldAnswers
 pub mod TypeLists
 pub mod SignatureAnswers
 pub mod ParamAnswers
+pub mod EnumAnswers
+pub mod ParamsChoice
+pub mod ParamsAnswers
+pub mod ParamsCrossed
+pub mod TypeExits
 pub mod EndChains
 pub mod PostfixEnds
 pub mod RefusedLemmas

@@ -16,6 +16,8 @@ pub mod TypeForms
 pub mod TypeViews
 -- parts of types that functions read of their own
 pub mod TypeParts
+-- whether parameters have names
+pub mod ParamForms
 -- where types that are operands end
 pub mod Ends
 -- the worked cases

@@ -1,5 +1,5 @@
 -- Parts of types that functions read of their own.
-use Rattle.std.specs.Prelude.{◌≡◌, ℕ, Bool, true, false, List, [], ◌∷◌, Option, Some, None}
+use Rattle.std.specs.Prelude.{◌≡◌, ℕ, Bool, true, false, List, [], ◌∷◌, Option, Some, None, Result, Ok, Err, Vec}
 use Rattle.odc_text.specs.declared.place.Place.{Place}
 use Rattle.odc_syntax.specs.declared.token.Token.{Token}
 use Rattle.odc_syntax.specs.declared.token.TokenKind.{TokenKind}
@@ -13,7 +13,13 @@ use Rattle.odc_syntax.specs.Grammar as g
 use Rattle.odc_syntax.specs.Derives.{StartsWithout}
 use Rattle.odc_parse_expr.specs.declared.shape.Shape.{Shape}
 use Rattle.odc_parse_expr.specs.declared.shape.Shape.TheVariants.{Array, Soa}
-use Rattle.odc_parse_expr.specs.Exact.{Part, then_, done, token}
+use Rattle.odc_parse_expr.specs.Exact.{Part, then_, done, token, Answer, Yes}
+use Rattle.odc_parse_expr.specs.Read.{refused}
+use Rattle.odc_parse_expr.specs.declared.stop.Stop.{Stop}
+use Rattle.std.specs.declared.alloc.Global.{Global}
+use Rattle.std.specs.Borrow.{Bor}
+use Rattle.odc_syntax.specs.declared.tree.Field.{Field}
+use Rattle.odc_syntax.specs.View.{type}
 
 -- lists up to their closing tokens
 abbrev pub fields_line : Use → Part (Fields × (Token × Unit {0}))
@@ -115,3 +121,16 @@ pub record Uncalled (ts us : List Token) : Type 0 where
 abbrev pub Convention : List Token → Option Token → List Token → Type 0
 Convention ts None us = Uncalled ts us
 Convention ts (Some t) us = Called ts t us
+
+-- names with their colon, and a field with its colon
+abbrev pub named_by : Result (Vec Token Global × Token × Bor (List Token)) Stop → Answer (List Token × (Token × Unit {0}))
+named_by (Ok r) = Yes (r.0.items, (r.1, tt)) 0 r.2.now
+named_by (Err e) = refused e
+
+abbrev pub field_by : Result (Field × Token × ℕ × Bor (List Token)) Stop → Answer (List Token × (Token × Type_))
+field_by (Ok r) = Yes (r.0.names.items, (r.1, type r.0.ty)) r.2 r.3.now
+field_by (Err e) = refused e
+
+-- the type of an enum, if it is given, up to the opening brace
+abbrev pub base_line : Use → Part (tree.MaybeType × (Token × Unit {0}))
+base_line u = then_ (g.maybe_type u) (then_ (token kind.OpenBrace) done)
