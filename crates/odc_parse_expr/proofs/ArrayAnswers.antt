@@ -1,5 +1,5 @@
 -- Types with square brackets: an answer for each way that the reading of one, and of its length, may end.
-use Rattle.std.proofs.Common.{◌≡◌, ℕ, suc, ◌*◌, ◌<◌, ◌≤◌, max, Bool, true, false, List, [], ◌∷◌, ◌++◌, length, refl, sym, ◌∙◌, ap, subst, arith, append_assoc, Some}
+use Rattle.std.proofs.Common.{◌≡◌, ℕ, suc, ◌-◌, ◌*◌, ◌<◌, ◌≤◌, max, Bool, true, false, List, [], ◌∷◌, ◌++◌, length, refl, sym, ◌∙◌, ap, subst, arith, append_assoc, Some}
 use Rattle.odc_text.specs.declared.place.Place.{Place}
 use Rattle.odc_syntax.specs.declared.token.Token.{Token}
 use Rattle.odc_syntax.specs.declared.token.TokenKind.{TokenKind}
@@ -386,3 +386,42 @@ fixed_unclosed u b ts x n after stop within f d o found over h = token_refused k
 pub fixed_answer : (u : Use) (b : ℕ) (c : Token) (ts : List Token) (x : Expr) (n : ℕ) (after rest : List Token) → StartsWithout kind.CloseBracket ts → StartsWithout kind.Dynamic ts → (u ≡ Parameter → StartsWithout kind.Dollar ts) →
     Found (one (g.expression Free)) (continues Or Free) b ts x n after → n ≤ b → after ≡ c ∷ rest → c.kind ≡ kind.CloseBracket → Found (length_line u) nothing_continues b ts (tree.fixed x, (c, tt)) n rest
 fixed_answer u b c ts x n after rest f d o found within is k = answer_is refl (omega arith) (led_done same_depth (token_read same_depth (fixed_read u b ts x n after f d o found) (omega (arith, within)) is k))
+
+-- the tokens in the brackets are these
+pub bracketed_is : (shape : Shape) (at : Place) (ts us vs : List Token) → us ≡ vs → Bracketed shape at ts us → Bracketed shape at ts vs
+bracketed_is shape at ts us vs is z = subst (λ (l : List Token). Bracketed shape at ts l) is z
+
+soa_dead : {u : Use} {c : ℕ} {w : Type_} {p : List Sym} (rule : Rule (constructed u c w) p) (t : Token) (us : List Token) → built_form u t ≡ Some built.Soa → StartsWithout kind.OpenBracket us → built_form u t ≡ Some (rule_built rule) → (s s' : List Sym) (ts' : List Token) → Reach s' ts' (p ++ s) (t ∷ us) →
+    size s' ts' ≤ 2 * length us → ⊥
+soa_dead g.type_soa t us e none f s s' ts' r h =
+    let z = (behind_said r (omega (arith, h))).1 in
+    let y = behind_token (at_rest z) h in
+    without kind.OpenBracket _ _ us y.is y.kind none
+soa_dead g.type_soa_counted t us e none f s s' ts' r h =
+    let z = (behind_said r (omega (arith, h))).1 in
+    let y = behind_token (at_rest z) h in
+    without kind.OpenBracket _ _ us y.is y.kind none
+soa_dead _ t us e none f s s' ts' r h = cc
+
+soa_broken : (u : Use) (b : ℕ) (t : Token) (us : List Token) → t.kind ≡ kind.Directive → t.word ≡ word.Soa → StartsWithout kind.OpenBracket us → Broken (one (constructed u)) nothing_continues (suc b) (t ∷ us) (length us)
+soa_broken u b t us k x none = record {
+  short = omega arith;
+  comes = record {
+    at = λ c h.
+        let deeper : suc (c - 1) ≡ c = omega (arith, h) in
+        subst (λ (n : ℕ). ComesAt (one (constructed u)) n (t ∷ us) (length us)) deeper (record {
+          value = type t.at (tree.soa tree.slice sample.type);
+          before = λ s. record { pending = _; rest = us; rest_is = refl; reach = write _ (g.type_soa {o = sample.token} {c = sample.token}) (read_said k x here) };
+        });
+  };
+  none = λ c w s s' ts' clear r h.
+      let z = behind_part tt r (omega (arith, h)) in
+      soa_dead z.rule t us (soa_form u t k x) none (built_first z.rule s s' ts' t us z.reach (omega (arith, h))) s s' ts' z.reach h;
+}
+
+-- no `[` stands behind `#soa`
+pub soa_unopened : (u : Use) (b : ℕ) (t : Token) (us : List Token) (stop : Stop) → (t.kind ≡ kind.Directive) × (t.word ≡ word.Soa) → NotExpected kind.OpenBracket true us stop → ExactAs u (one (constructed u)) nothing_continues (suc b) (t ∷ us) (refused stop)
+soa_unopened u b t us (stop.Syntax left) e h =
+    subst (λ (k : ℕ). Broken (one (constructed u)) nothing_continues (suc b) (t ∷ us) k) (sym h.0) (soa_broken u b t us e.0 e.1 h.1)
+soa_unopened u b t us (stop.Deep left) e h = let bad : true ≡ false = h.over in cc
+soa_unopened u b t us stop.Memory e h = elim h [ ]

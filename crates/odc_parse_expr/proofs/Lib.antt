@@ -44,6 +44,9 @@ pub mod EnumAnswers
 pub mod ParamsChoice
 pub mod ParamsAnswers
 pub mod ParamsCrossed
+pub mod DollarAnswers
+pub mod ProcedureAnswers
+pub mod ProcPlaces
 pub mod TypeExits
 pub mod EndChains
 pub mod PostfixEnds

@@ -102,3 +102,8 @@ list_goes_on {X} {V} {L} r p b ts xs ys x n after us led more within again =
 pub list_stuck : {X V L : Type 0} (r : ListOf X V L) (p : Part (L × (Token × Unit {0}))) (b : ℕ) (ts : List Token) (xs : List X) (v : V) (n : ℕ) (after : List Token) (stop : Stop) (within : Bool) →
     ItemAt r p b ts xs v n after → NotGoing r.close within after stop → (within ≡ false → b < n) → Exact p nothing_continues b ts (refused stop)
 list_stuck r p b ts xs v n after stop within led h over = list_refused r.item r.more r.nil r.cons r.rules r.any r.close r.not_comma r.closes stop within h over led
+
+-- the same at the depth that a function keeps
+pub item_as : {X V L : Type 0} (r : ListOf X V L) (p : Part (L × (Token × Unit {0}))) (b : ℕ) (ts : List Token) (xs : List X) (n : ℕ) (rest : List Token) (v : V) (m top : ℕ) (after : List Token) → ListAt r p b ts xs n rest → n ≤ b →
+    Found r.item r.cont b rest v m after → top ≡ max n m → ItemAt r p b ts xs v top after
+item_as r p b ts xs n rest v m top after led within found high = subst (λ (k : ℕ). ItemAt r p b ts xs v k after) (sym high) (item_read r p b ts xs n rest v m after led within found)

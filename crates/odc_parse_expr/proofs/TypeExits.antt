@@ -17,6 +17,8 @@ use Rattle.odc_parse_expr.specs.Ends.{FoundAs, ExactAs}
 use Rattle.odc_parse_expr.specs.Read.{refused, NotExpected}
 use Rattle.odc_parse_expr.specs.Sets.{nothing_continues}
 use Rattle.odc_parse_expr.specs.TypeForms.{own_form, built_form}
+use Rattle.std.specs.Prelude.{IfSome, IfNone}
+use Rattle.odc_parse_expr.specs.Lists.{Ended, Again}
 use Rattle.odc_parse_expr.proofs.Leading.{same_depth}
 use Rattle.odc_parse_expr.proofs.Answering.{led_rest_refused, empty_broken}
 use Rattle.odc_parse_expr.proofs.EndLemmas.{same_as, refused_as, as_refused}
@@ -58,3 +60,10 @@ built_same u b t ts us NoMemory is none h = tt
 -- a token that must stand next doesn't, where a part of several tokens begins with it
 pub at_tokens : {V : Type 0} (u : Use) (p : Part V) (b : ℕ) (ts us : List Token) (r : Answer (V × End)) → ts ≡ us → ExactAs u p nothing_continues b us r → ExactAs u p nothing_continues b ts r
 at_tokens u p b ts us r is h = subst (λ (l : List Token). ExactAs u p nothing_continues b l r) (sym is) h
+
+-- how a list goes on, from a result that may have a closing token
+pub ended_by : (close : TokenKind) (ts : List Token) (o : Option Token) (t : Token) (rest : List Token) → o ≡ Some t → IfSome o (λ t. Ended close ts t rest) → Ended close ts t rest
+ended_by close ts o t rest is h = subst (λ (o : Option Token). IfSome o (λ t. Ended close ts t rest)) is h
+
+pub again_by : (close : TokenKind) (ts : List Token) (o : Option Token) (rest : List Token) → o ≡ None → IfNone o (Again close ts rest) → Again close ts rest
+again_by close ts o rest is h = subst (λ (o : Option Token). IfNone o (Again close ts rest)) is h
