@@ -18,14 +18,14 @@ use Rattle.odc_parse_expr.specs.declared.stop.Stop.TheVariants as stop
 use Rattle.odc_parse_expr.specs.Exact.{size, Clear, Part, one, Comes, ComesAt, then_, done, behind, Exact, Yes, Found, Broken, TooDeep}
 use Rattle.odc_parse_expr.specs.Read.{refused}
 use Rattle.odc_parse_expr.specs.Sets.{starts_type, continues, continues_argument, nothing_continues}
-use Rattle.odc_parse_expr.specs.TypeParts.{names_line}
+use Rattle.odc_parse_expr.specs.TypeParts.{names_line, typed_line}
 use Rattle.odc_parse_expr.proofs.Opening.{reach_opens}
 use Rattle.odc_parse_expr.proofs.Reaching.{behind_token, behind_said, behind_part}
 use Rattle.odc_parse_expr.proofs.Leading.{Rises, same_depth, Pending, Led, led_part, led_done, first_is, without}
 use Rattle.odc_parse_expr.proofs.Answering.{Stepped, led_start, led_step, led_stuck, led_rest, led_rest_refused, led_same, part_refused, answer_is, wider_exact, stuck_broken}
 use Rattle.odc_parse_expr.proofs.SuffixLemmas.{at_rest}
 use Rattle.odc_parse_expr.proofs.SuffixAnswers.{nothing_clear}
-use Rattle.odc_parse_expr.proofs.LineLemmas.{led_behind, behind_refused, led_blocked}
+use Rattle.odc_parse_expr.proofs.LineLemmas.{led_whole, led_behind, behind_refused, led_blocked}
 use Rattle.odc_parse_expr.proofs.FieldAnswers.{narrow}
 use Rattle.odc_parse_expr.proofs.Samples as sample
 
@@ -64,14 +64,14 @@ plain_param ns (inferred t e) = tree.param false ns tree.inferred (tree.some_exp
 abbrev Line : Type 0
 Line = (List Token × (Token × Unit {0})) × Given
 
-plain_by : {u : Use} {c : ℕ} {w : Param} {p : List Sym} (rule : Rule (g.named_param u c w) p) (ts : List Token) → StartsWithout kind.Dollar ts → (s s' : List Sym) (ts' : List Token) → Reach s' ts' (p ++ s) ts → size s' ts' ≤ 2 * length ts →
+plain_by : {u : Use} {c : ℕ} {w : Param} {p : List Sym} (rule : Rule (g.named_param u c w) p) (ts : List Token) → (u ≡ Parameter → StartsWithout kind.Dollar ts) → (s s' : List Sym) (ts' : List Token) → Reach s' ts' (p ++ s) ts → size s' ts' ≤ 2 * length ts →
     Pending {U = Line} (λ n. n) (behind names_line (given_line u)) (λ v. plain_param v.0.0 v.1) 0 ts c w s s' ts'
 unfolding behind given_line
 plain_by (g.named_typed {b = b} {ns = ns} {c = k} {ty = ty} {d = d}) ts none s s' ts' r h = record { at = b; value = ((ns, (k, tt)), typed ty d); bound = refl; whole = refl; deep = omega arith; reach = r }
 plain_by (g.named_typeid {b = b} {ns = ns} {c = k} {t = t} {d = d}) ts none s s' ts' r h = record { at = b; value = ((ns, (k, tt)), as_typeid t d); bound = refl; whole = refl; deep = omega arith; reach = r }
 plain_by (g.named_inferred {b = b} {ns = ns} {c = k} {t = t} {e = e}) ts none s s' ts' r h = record { at = b; value = ((ns, (k, tt)), inferred t e); bound = refl; whole = refl; deep = omega arith; reach = r }
-plain_by g.dollar_typeid ts none s s' ts' r h = let z = behind_token r h in absurd (without kind.Dollar _ _ ts z.is z.kind none)
-plain_by g.dollar_int ts none s s' ts' r h = let z = behind_token r h in absurd (without kind.Dollar _ _ ts z.is z.kind none)
+plain_by g.dollar_typeid ts none s s' ts' r h = let z = behind_token r h in absurd (without kind.Dollar _ _ ts z.is z.kind (none refl))
+plain_by g.dollar_int ts none s s' ts' r h = let z = behind_token r h in absurd (without kind.Dollar _ _ ts z.is z.kind (none refl))
 
 plain_write : (u : Use) (c : ℕ) (ns : List Token) (k : Token) (v : Given) (ts : List Token) (s : List Sym) → Reach ((behind names_line (given_line u)) c ((ns, (k, tt)), v) ++ s) ts (g.named_param u c (plain_param ns v) ∷ s) ts
 unfolding behind given_line
@@ -79,7 +79,7 @@ plain_write u c ns k (typed ty d) ts s = write _ (g.named_typed {c = k}) here
 plain_write u c ns k (as_typeid t d) ts s = write _ (g.named_typeid {c = k} {t = t}) here
 plain_write u c ns k (inferred t e) ts s = write _ (g.named_inferred {c = k} {t = t}) here
 
-plain_led : (u : Use) (b : ℕ) (ts : List Token) → StartsWithout kind.Dollar ts → Led (one (g.named_param u)) continues_argument (λ n. n) b ts (behind names_line (given_line u)) (λ v. plain_param v.0.0 v.1) 0 ts
+plain_led : (u : Use) (b : ℕ) (ts : List Token) → (u ≡ Parameter → StartsWithout kind.Dollar ts) → Led (one (g.named_param u)) continues_argument (λ n. n) b ts (behind names_line (given_line u)) (λ v. plain_param v.0.0 v.1) 0 ts
 plain_led u b ts none = record {
   short = omega arith;
   sample = ((sample.token ∷ [], (sample.token, tt)), typed sample.type tree.no_expr);
@@ -91,14 +91,14 @@ plain_led u b ts none = record {
 given_clear : (u : Use) (c : ℕ) (v : Given) (s : List Sym) → Clear nothing_continues (given_line u c v ++ s)
 given_clear u c v s = nothing_clear (given_line u c v ++ s)
 
-pub param_unnamed : (u : Use) (b : ℕ) (ts : List Token) (stop : Stop) → StartsWithout kind.Dollar ts → Exact names_line nothing_continues b ts (refused stop) → Exact (one (g.named_param u)) continues_argument b ts (refused stop)
+pub param_unnamed : (u : Use) (b : ℕ) (ts : List Token) (stop : Stop) → (u ≡ Parameter → StartsWithout kind.Dollar ts) → Exact names_line nothing_continues b ts (refused stop) → Exact (one (g.named_param u)) continues_argument b ts (refused stop)
 param_unnamed u b ts stop none h = behind_refused nothing_continues names_line (given_line u) stop same_depth (plain_led u b ts none) (omega arith) h (given_clear u)
 
 -- the names and the colon are read
 abbrev pub PlainAt : Use → ℕ → List Token → List Token → List Token → Type 0
 PlainAt u b ts ns after = Led (one (g.named_param u)) continues_argument (λ n. n) b ts (given_line u) (plain_param ns) 0 after
 
-pub param_named : (u : Use) (b : ℕ) (ts ns : List Token) (k : Token) (after : List Token) → StartsWithout kind.Dollar ts → Found names_line nothing_continues b ts (ns, (k, tt)) 0 after → PlainAt u b ts ns after
+pub param_named : (u : Use) (b : ℕ) (ts ns : List Token) (k : Token) (after : List Token) → (u ≡ Parameter → StartsWithout kind.Dollar ts) → Found names_line nothing_continues b ts (ns, (k, tt)) 0 after → PlainAt u b ts ns after
 param_named u b ts ns k after none found = led_behind same_depth (plain_led u b ts none) (omega arith) found (given_clear u)
 
 not_type : (u : Use) (k m : TokenKind) → k ≡ m → starts_type u m ≡ false → starts_type u k ≡ true → ⊥
@@ -157,8 +157,23 @@ inferred_answer u b ts ns after t us x n rest w led is e found made =
     answer_is (sym made) (omega arith) (led_rest same_depth (inferred_at u b ts ns after t us led is e) (omega arith) wide)
 
 -- a type, and what the names are given by default
-abbrev typed_line : Use → Part (Type_ × MaybeExpr)
-typed_line u = then_ (type_ u) (one g.given)
+typed_whole : (u : Use) (b : ℕ) (ts : List Token) → Led (typed_line u) continues_argument (λ n. n) b ts (then_ (type_ u) (one g.given)) (λ v. v) 0 ts
+unfolding then_
+typed_whole u b ts = led_whole (typed_line u) continues_argument b ts (sample.type, tree.no_expr)
+
+pub type_refused : (u : Use) (b : ℕ) (ts : List Token) (stop : Stop) → Exact (one (type_ u)) nothing_continues b ts (refused stop) → Exact (typed_line u) continues_argument b ts (refused stop)
+type_refused u b ts stop h = part_refused (type_ u) nothing_continues (one g.given) stop same_depth (typed_whole u b ts) (omega arith) h (λ c v s clear. nothing_clear (one g.given c v ++ s))
+
+type_read : (u : Use) (b : ℕ) (ts : List Token) (ty : Type_) (n : ℕ) (rest : List Token) → Found (one (type_ u)) nothing_continues b ts ty n rest → Led (typed_line u) continues_argument (λ n. n) b ts (one g.given) (λ d. (ty, d)) (max 0 n) rest
+type_read u b ts ty n rest found = led_part same_depth (typed_whole u b ts) (omega arith) found (λ c v s clear. nothing_clear (one g.given c v ++ s))
+
+pub default_refused : (u : Use) (b : ℕ) (ts : List Token) (ty : Type_) (n : ℕ) (rest : List Token) (stop : Stop) → Found (one (type_ u)) nothing_continues b ts ty n rest → n ≤ b → Exact (one g.given) continues_argument b rest (refused stop) →
+    Exact (typed_line u) continues_argument b ts (refused stop)
+default_refused u b ts ty n rest stop found within h = led_rest_refused stop same_depth (type_read u b ts ty n rest found) (omega (arith, within)) h
+
+pub default_answer : (u : Use) (b : ℕ) (ts : List Token) (ty : Type_) (n : ℕ) (rest : List Token) (d : MaybeExpr) (m : ℕ) (last : List Token) (top : ℕ) → Found (one (type_ u)) nothing_continues b ts ty n rest → n ≤ b → Found (one g.given) continues_argument b rest d m last →
+    top ≡ max n m → Found (typed_line u) continues_argument b ts (ty, d) top last
+default_answer u b ts ty n rest d m last top found within default high = answer_is refl (omega (arith, high)) (led_rest same_depth (type_read u b ts ty n rest found) (omega (arith, within)) default)
 
 typed_by : (u : Use) (ts : List Token) → StartsWithout kind.Typeid ts → StartsWithout kind.Assign ts → (c : ℕ) (v : Given) (s s' : List Sym) (ts' : List Token) → Reach s' ts' (given_line u c v ++ s) ts → size s' ts' ≤ 2 * length ts →
     Stepped (typed_line u) (λ v. typed v.0 v.1) c v s s' ts' ts
@@ -173,20 +188,10 @@ unfolding given_line then_
 typed_led u b ts ns after led f o =
     led_step after (typed_line u) (λ v. typed v.0 v.1) (sample.type, tree.no_expr) same_depth (omega arith) (omega arith) (λ c v s. here) (λ c v s s' ts' clear r h. typed_by u after f o c v s s' ts' r h) led
 
-pub typed_refused : (u : Use) (b : ℕ) (ts ns after : List Token) (stop : Stop) → PlainAt u b ts ns after → StartsWithout kind.Typeid after → StartsWithout kind.Assign after → Exact (one (type_ u)) nothing_continues b after (refused stop) →
+pub typed_refused : (u : Use) (b : ℕ) (ts ns after : List Token) (stop : Stop) → PlainAt u b ts ns after → StartsWithout kind.Typeid after → StartsWithout kind.Assign after → Exact (typed_line u) continues_argument b after (refused stop) →
     Exact (one (g.named_param u)) continues_argument b ts (refused stop)
-typed_refused u b ts ns after stop led f o h =
-    part_refused (type_ u) nothing_continues (one g.given) stop same_depth (typed_led u b ts ns after led f o) (omega arith) h (λ c v s clear. nothing_clear (one g.given c v ++ s))
+typed_refused u b ts ns after stop led f o h = led_rest_refused stop same_depth (typed_led u b ts ns after led f o) (omega arith) h
 
-typed_read : (u : Use) (b : ℕ) (ts ns after : List Token) (ty : Type_) (n : ℕ) (rest : List Token) → PlainAt u b ts ns after → StartsWithout kind.Typeid after → StartsWithout kind.Assign after → Found (one (type_ u)) nothing_continues b after ty n rest →
-    Led (one (g.named_param u)) continues_argument (λ n. n) b ts (one g.given) (λ d. tree.param false ns (tree.of_type ty) d) (max 0 n) rest
-typed_read u b ts ns after ty n rest led f o found = led_part same_depth (typed_led u b ts ns after led f o) (omega arith) found (λ c v s clear. nothing_clear (one g.given c v ++ s))
-
-pub typed_default_refused : (u : Use) (b : ℕ) (ts ns after : List Token) (ty : Type_) (n : ℕ) (rest : List Token) (stop : Stop) → PlainAt u b ts ns after → StartsWithout kind.Typeid after → StartsWithout kind.Assign after →
-    Found (one (type_ u)) nothing_continues b after ty n rest → n ≤ b → Exact (one g.given) continues_argument b rest (refused stop) → Exact (one (g.named_param u)) continues_argument b ts (refused stop)
-typed_default_refused u b ts ns after ty n rest stop led f o found within h = led_rest_refused stop same_depth (typed_read u b ts ns after ty n rest led f o found) (omega (arith, within)) h
-
-pub typed_answer : (u : Use) (b : ℕ) (ts ns after : List Token) (ty : Type_) (n : ℕ) (rest : List Token) (d : MaybeExpr) (m : ℕ) (last : List Token) (w : Param) (top : ℕ) → PlainAt u b ts ns after → StartsWithout kind.Typeid after → StartsWithout kind.Assign after →
-    Found (one (type_ u)) nothing_continues b after ty n rest → n ≤ b → Found (one g.given) continues_argument b rest d m last → w ≡ tree.param false ns (tree.of_type ty) d → top ≡ max n m → Found (one (g.named_param u)) continues_argument b ts w top last
-typed_answer u b ts ns after ty n rest d m last w top led f o found within default made high =
-    answer_is (sym made) (omega (arith, high)) (led_rest same_depth (typed_read u b ts ns after ty n rest led f o found) (omega (arith, within)) default)
+pub typed_answer : (u : Use) (b : ℕ) (ts ns after : List Token) (v : Type_ × MaybeExpr) (n : ℕ) (rest : List Token) (w : Param) → PlainAt u b ts ns after → StartsWithout kind.Typeid after → StartsWithout kind.Assign after →
+    Found (typed_line u) continues_argument b after v n rest → w ≡ tree.param false ns (tree.of_type v.0) v.1 → Found (one (g.named_param u)) continues_argument b ts w n rest
+typed_answer u b ts ns after v n rest w led f o found made = answer_is (sym made) (omega arith) (led_rest same_depth (typed_led u b ts ns after led f o) (omega arith) found)

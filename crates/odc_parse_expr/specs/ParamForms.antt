@@ -22,3 +22,7 @@ pub data Blocked : List Token → List Token → Type 0 where
   unnamed : {ts : List Token} → StartsWithout Name ts → Blocked ts ts
   alone : {t : Token} {rest : List Token} → t.kind ≡ Name → StartsWithout Comma rest → StartsWithout Colon rest → Blocked (t ∷ rest) rest
   again : {t c : Token} {us at : List Token} → t.kind ≡ Name → c.kind ≡ Comma → Blocked us at → Blocked (t ∷ c ∷ us) at
+
+pub record Named (ts : List Token) : Type 0 where
+  pub after : List Token
+  pub leads : Leads ts after

@@ -134,3 +134,7 @@ field_by (Err e) = refused e
 -- the type of an enum, if it is given, up to the opening brace
 abbrev pub base_line : Use → Part (tree.MaybeType × (Token × Unit {0}))
 base_line u = then_ (g.maybe_type u) (then_ (token kind.OpenBrace) done)
+
+-- a type, and what the names before it are given by default
+abbrev pub typed_line : Use → Part (Type_ × tree.MaybeExpr)
+typed_line u c v = g.type_ u c v.0 ∷ g.given c v.1 ∷ []
