@@ -10,7 +10,7 @@ use Rattle.odc_syntax.specs.declared.token.TokenKind.{TokenKind}
 use Rattle.odc_syntax.specs.declared.token.TokenKind.TheVariants as kind
 use Rattle.odc_syntax.specs.declared.token.Word.{Word}
 use Rattle.odc_syntax.specs.declared.token.Word.TheVariants as word
-use Rattle.odc_syntax.specs.Refused.{Stands, Says, kind_of, word_of, Refused, FirstRefused, NoneRefused, is_directive, float, matrix, map, typeid, transmute, auto_cast, multi_pointer, bit_set, bit_field, using, directive, where_, dot_dot, proc_group, struct_params, union_params, foreign, asm, convention, soa_pointer, address_of_context, when, or_else, or_break, or_continue, question, at_sign, hash_plus, not_in}
+use Rattle.odc_parse_expr.specs.Refused.{Stands, Says, kind_of, word_of, Refused, FirstRefused, NoneRefused, is_directive, float, matrix, map, typeid, transmute, auto_cast, multi_pointer, bit_set, bit_field, using, directive, where_, dot_dot, proc_group, struct_params, union_params, foreign, asm, convention, soa_pointer, address_of_context, when, or_else, or_break, or_continue, question, at_sign, hash_plus, not_in}
 use Rattle.odc_parse_expr.specs.RefusedForms.{form_of, directive_form, Unconventional, BehindProc, group, text, Refuses, refused_form}
 
 module _ (ts : List Token) (i : ℕ) where

@@ -22,6 +22,8 @@ pub mod ParamForms
 pub mod Ends
 -- the worked cases
 pub mod Worked
+-- the forms that the language refuses
+pub mod Refused
 -- refused forms by their first token
 pub mod RefusedForms
 -- the kinds of tokens that go on with statements and declarations

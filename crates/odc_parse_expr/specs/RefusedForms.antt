@@ -7,7 +7,7 @@ use Rattle.odc_syntax.specs.declared.token.TokenKind.{TokenKind}
 use Rattle.odc_syntax.specs.declared.token.TokenKind.TheVariants as kind
 use Rattle.odc_syntax.specs.declared.token.Word.{Word}
 use Rattle.odc_syntax.specs.declared.token.Word.TheVariants as word
-use Rattle.odc_syntax.specs.Refused.{Stands, Says, BehindDollar, Bracketed, is_convention}
+use Rattle.odc_parse_expr.specs.Refused.{Stands, Says, BehindDollar, Bracketed, is_convention}
 use Rattle.odc_parse_expr.specs.declared.refused.RefusedForm.{RefusedForm}
 use Rattle.odc_parse_expr.specs.declared.refused.RefusedForm.TheVariants.{Always, Before, Typeid, Bracket, Proc, Question, Nothing}
 

@@ -2,7 +2,7 @@
 
 ghost use Rattle.std.specs.Prelude.{◌≡◌, ◌<◌, ◌↔◌, IsTrue, IfSome, IfNone, length};
 ghost use Rattle.odc_text.specs.declared.code.Code.{Code};
-ghost use Rattle.odc_syntax.specs.Refused.{Stands, BehindDollar, Bracketed, Refused, FirstRefused, NoneRefused, is_convention};
+ghost use Rattle.odc_parse_expr.specs.Refused.{Stands, BehindDollar, Bracketed, Refused, FirstRefused, NoneRefused, is_convention};
 ghost use Rattle.odc_parse_expr.specs.RefusedForms.{refused_form, Unconventional, BehindProc, Pointed, Refuses};
 
 use crate::tokens::same_kind;

@@ -32,5 +32,3 @@ pub mod Operators
 pub mod Grammar
 -- what derives, and what begins
 pub mod Derives
--- the forms that the language refuses
-pub mod Refused

@@ -1,4 +1,4 @@
-use Rattle.odc_syntax.specs.Refused.{NoneRefused}
+use Rattle.odc_parse_expr.specs.Refused.{NoneRefused}
 use Rattle.odc_parse_expr.proofs.refused.first_refused_between.Given as goal
 
 abbrev pub invariant-loop-at : goal.invariant-loop-at
