@@ -47,6 +47,7 @@ pub mod ParamsCrossed
 pub mod DollarAnswers
 pub mod ProcedureAnswers
 pub mod ProcPlaces
+pub mod ParamsEnds
 pub mod TypeExits
 pub mod EndChains
 pub mod PostfixEnds

@@ -247,3 +247,16 @@ takes_dot Plain = refl
 takes_dot Parameter = refl
 takes_dot Operand = refl
 takes_dot OperandEnd = refl
+
+-- a list whose front has names is not empty
+leads_open : {us after : List Token} → Leads us after → StartsWithout kind.CloseParen us
+leads_open (last e f) = λ k. let bad : kind.Name ≡ kind.CloseParen = sym e ∙ k in cc
+leads_open (more e f l) = λ k. let bad : kind.Name ≡ kind.CloseParen = sym e ∙ k in cc
+
+pub not_empty : {u : Use} {ts us after : List Token} → Front u ts us → Leads us after → StartsWithout kind.CloseParen ts
+not_empty (plain none) l = leads_open l
+not_empty (dollar i e) l = λ k. let bad : kind.Dollar ≡ kind.CloseParen = sym e ∙ k in cc
+
+-- names that a loop has passed
+pub passed : {t c : Token} {us at : List Token} → t.kind ≡ kind.Name → c.kind ≡ kind.Comma → Blocked us at → Blocked (t ∷ c ∷ us) at
+passed e f b = again e f b

@@ -15,10 +15,11 @@ use Rattle.odc_parse_expr.specs.declared.end.End.{End}
 use Rattle.odc_parse_expr.specs.declared.end.End.TheVariants.{Sure, BeforeDot}
 use Rattle.odc_parse_expr.specs.declared.stop.Stop.{Stop}
 use Rattle.odc_parse_expr.specs.declared.stop.Stop.TheVariants as stop
-use Rattle.odc_parse_expr.specs.Exact.{size, one, Comes, ComesAt, Exact, Found, Broken, TooDeep, Remains}
-use Rattle.odc_parse_expr.specs.Ends.{FoundTo, sure}
+use Rattle.odc_parse_expr.specs.Exact.{size, one, Comes, ComesAt, Exact, Answer, Found, Broken, TooDeep, Remains}
+use Rattle.odc_parse_expr.specs.Ends.{FoundTo, ExactTo, sure}
 use Rattle.odc_parse_expr.specs.Read.{refused}
-use Rattle.odc_parse_expr.specs.Sets.{nothing_continues, is_free, starts_constructed}
+use Rattle.odc_parse_expr.specs.Sets.{nothing_continues, is_free, takes_braces, starts_constructed}
+use Rattle.odc_parse_expr.specs.TypeViews.{proc_type, proc_literal}
 use Rattle.odc_parse_expr.proofs.Opening.{reach_opens, is_brace, First}
 use Rattle.odc_parse_expr.proofs.Reaching.{along, behind_token, behind_part, behind_not_next}
 use Rattle.odc_parse_expr.proofs.Leading.{one_deeper, Pending, Led, without, first_is}
@@ -26,12 +27,6 @@ use Rattle.odc_parse_expr.proofs.Answering.{led_rest, led_rest_refused, led_over
 use Rattle.odc_parse_expr.proofs.SuffixAnswers.{nothing_clear}
 use Rattle.odc_parse_expr.proofs.EndLemmas.{sure_most, to_found}
 use Rattle.odc_parse_expr.proofs.Samples as sample
-
-abbrev pub proc_type : Signature → Expr
-proc_type (signature at n ps r) = expr at at (tree.type_tree (tree.type at (tree.proc (signature at n ps r))))
-
-abbrev pub proc_literal : Signature → Stmts → Expr
-proc_literal (signature at n ps r) ss = expr at at (tree.proc_lit (signature at n ps r) ss)
 
 type_write : (m : Mode) (c : ℕ) (v : Signature) → Rule (operand m (suc (suc c)) (proc_type v)) (g.sig Operand c v ∷ g.not_next kind.OpenBrace ∷ [])
 type_write m c (signature at n ps r) = g.operand_proc_type
@@ -220,3 +215,24 @@ body_nowhere m header b t us v n o inner rest e found is brace = record {
       let z = behind_part tt r (omega (arith, h, k)) in
       nowhere_by (by_proc z.rule t us e s s' ts' z.reach (omega (arith, h, k))) header t us v n o inner rest is brace (λ c w s s' ts' r n. found.only c w s s' ts' (nothing_clear s) r n) s s' ts' z.reach h;
 }
+
+-- a signature has the place of its first token
+place_by : {c : ℕ} {v : Signature} {p : List Sym} → Rule (g.sig Operand c v) p → (t : Token) (us : List Token) (s s' : List Sym) (ts' : List Token) → Reach s' ts' (p ++ s) (t ∷ us) → size s' ts' ≤ 2 * length us → expr t.at t.at (tree.type_tree (tree.type t.at (tree.proc v))) ≡ proc_type v
+place_by (g.sig_ {t = x} {n = n} {ps = ps} {r = q}) t us s s' ts' r h =
+    let z = behind_token r (omega (arith, h)) in
+    ap (λ (y : Token). expr y.at y.at (tree.type_tree (tree.type y.at (tree.proc (signature x.at n ps q))))) (sym (first_is z.is))
+
+-- at a list of tokens that begins with `proc`
+pub procedure_at : (m : Mode) (d : ℕ) (ts : List Token) (t : Token) (us : List Token) (r : Answer (Expr × End)) → ts ≡ t ∷ us → ExactTo (one (operand m)) nothing_continues d (t ∷ us) r → ExactTo (one (operand m)) nothing_continues d ts r
+procedure_at m d ts t us r is h = subst (λ (l : List Token). ExactTo (one (operand m)) nothing_continues d l r) (sym is) h
+
+-- where braces may stand
+pub takes_body : (m : Mode) → takes_braces m ≡ true → later m ≡ Free
+takes_body Free e = refl
+takes_body Header e = cc
+takes_body Start e = refl
+
+pub takes_none : (m : Mode) → takes_braces m ≡ false → later m ≡ Header
+takes_none Free e = cc
+takes_none Header e = refl
+takes_none Start e = cc

@@ -36,3 +36,10 @@ params (p ∷ ps) = tree.more_params (param p) (params ps)
 
 abbrev pub signature : Signature → tree.Signature
 signature s = held_signature s
+
+-- a procedure's type where an expression may stand, and a procedure with its body
+abbrev pub proc_type : tree.Signature → tree.Expr
+proc_type (tree.signature at n ps r) = tree.expr at at (tree.type_tree (tree.type at (tree.proc (tree.signature at n ps r))))
+
+abbrev pub proc_literal : tree.Signature → tree.Stmts → tree.Expr
+proc_literal (tree.signature at n ps r) ss = tree.expr at at (tree.proc_lit (tree.signature at n ps r) ss)
