@@ -73,3 +73,5 @@ pub mod BlockLemmas
 pub mod IfLemmas
 pub mod HeadLemmas
 pub mod HeadExpressions
+pub mod LawLemmas
+pub mod BlameLemmas

@@ -38,3 +38,7 @@ pub mod StatementForms
 pub mod BodyParts
 -- the clean forms of what the functions on statements give
 pub mod Statements
+-- what the public calls answer
+pub mod Law
+-- which fault is answered
+pub mod Blame

@@ -9,6 +9,8 @@
 #![tactic(auto)]
 
 pub mod end;
+pub mod blame;
+pub mod error;
 pub mod laws;
 pub mod lists;
 pub mod operand;
