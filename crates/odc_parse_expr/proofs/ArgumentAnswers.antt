@@ -1,5 +1,5 @@
 -- Arguments between commas: the answers of the list, by those of its items.
-use Rattle.std.proofs.Common.{◌≡◌, ℕ, ◌<◌, ◌≤◌, max, Bool, false, List, [], ◌∷◌, ◌++◌, refl, sym, ◌∙◌, ap, subst, inl, inr, Option, None}
+use Rattle.std.proofs.Common.{◌≡◌, ℕ, ◌<◌, ◌≤◌, max, Bool, false, List, [], ◌∷◌, ◌++◌, refl, sym, ◌∙◌, ap, subst, inl, inr, Option, Some, None, IfSome, IfNone}
 use Rattle.odc_syntax.specs.declared.token.Token.{Token}
 use Rattle.odc_syntax.specs.declared.token.TokenKind.{TokenKind}
 use Rattle.odc_syntax.specs.declared.tree.Arg.{Arg}
@@ -72,6 +72,18 @@ ItemRead close b ts xs v n rest = Led (arguments close) nothing_continues (λ n.
 pub argument_read : (close : TokenKind) → ClosesArguments close → (b : ℕ) (ts : List Token) (xs : List Arg) (n : ℕ) (rest : List Token) (v : Option Token × Expr) (m : ℕ) (after : List Token) → ArgumentsAt close b ts xs n rest → n ≤ b →
     Found arg_item continues_argument b rest v m after → ItemRead close b ts xs v (max n m) after
 argument_read close k b ts xs n rest v m after led within found = led_parts led within found (left_stops close k)
+
+-- the same at the depth that the function counts
+pub item_read : (close : TokenKind) → ClosesArguments close → (b : ℕ) (ts : List Token) (xs : List Arg) (n : ℕ) (rest : List Token) (v : Option Token × Expr) (m top : ℕ) (after : List Token) → ArgumentsAt close b ts xs n rest → n ≤ b →
+    Found arg_item continues_argument b rest v m after → top ≡ max n m → ItemRead close b ts xs v top after
+item_read close k b ts xs n rest v m top after led within found high = subst (λ (h : ℕ). ItemRead close b ts xs v h after) (sym high) (argument_read close k b ts xs n rest v m after led within found)
+
+-- how the list goes on, by what stands behind the item
+pub ended_of : (close : TokenKind) (ts : List Token) (o : Option Token) (t : Token) (rest : List Token) → o ≡ Some t → IfSome o (λ t. Ended close ts t rest) → Ended close ts t rest
+ended_of close ts o t rest is h = subst (λ (o : Option Token). IfSome o (λ t. Ended close ts t rest)) is h
+
+pub again_of : (close : TokenKind) (ts : List Token) (o : Option Token) (rest : List Token) → o ≡ None → IfNone o (Again close ts rest) → Again close ts rest
+again_of close ts o rest is h = subst (λ (o : Option Token). IfNone o (Again close ts rest)) is h
 
 pub arguments_answer : (close : TokenKind) → ClosesArguments close → (b : ℕ) (ts : List Token) (xs ys : List Arg) (x : Arg) (n : ℕ) (after : List Token) (t : Token) (us : List Token) →
     ItemRead close b ts xs (x.name, expr x.value) n after → ys ≡ xs ++ x ∷ [] → n ≤ b → Ended close after t us → Found (arguments close) nothing_continues b ts (args ys, (t, tt)) n us

@@ -75,3 +75,4 @@ pub mod HeadLemmas
 pub mod HeadExpressions
 pub mod LawLemmas
 pub mod BlameLemmas
+pub mod Carrying

@@ -15,12 +15,14 @@ use Rattle.odc_syntax.specs.Grammar.{Sym, Rule, operand}
 use Rattle.odc_syntax.specs.Grammar as g
 use Rattle.odc_syntax.specs.Derives.{Reach, here, read, read_said, write}
 use Rattle.odc_parse_expr.specs.declared.stop.Stop.{Stop}
+use Rattle.odc_parse_expr.specs.declared.end.End.{End}
+use Rattle.odc_parse_expr.specs.Ends.{FoundTo}
 use Rattle.odc_parse_expr.specs.declared.operand.OperandForm.{OperandForm}
 use Rattle.odc_parse_expr.specs.declared.operand.OperandForm.TheVariants as form
 use Rattle.odc_parse_expr.specs.Exact.{size, Part, one, then_, done, token, Exact, ComesAt, Found, Broken, TooDeep}
 use Rattle.odc_parse_expr.specs.Forms.{form_by, operand_form, leaf_of}
 use Rattle.odc_parse_expr.specs.Parts.{arguments}
-use Rattle.odc_parse_expr.specs.Read.{refused, NotExpected}
+use Rattle.odc_parse_expr.specs.Read.{refused, NotExpected, StartsWith}
 use Rattle.odc_parse_expr.specs.Sets.{continues, nothing_continues}
 use Rattle.odc_parse_expr.proofs.Reaching.{behind_token, behind_part}
 use Rattle.odc_parse_expr.proofs.Leading.{one_deeper, Pending, Led, led_part, led_done, first_is}
@@ -30,6 +32,8 @@ use Rattle.odc_parse_expr.proofs.OperandLemmas.{rule_form, operand_first, name_f
 use Rattle.odc_parse_expr.proofs.SuffixLemmas.{at_rest}
 use Rattle.odc_parse_expr.proofs.SuffixAnswers.{token_clear}
 use Rattle.odc_parse_expr.proofs.WholeLemmas.{costs_operand}
+use Rattle.odc_parse_expr.proofs.Carrying.{answer_to}
+use Rattle.odc_parse_expr.proofs.EndLemmas.{led_rest_to}
 use Rattle.odc_parse_expr.proofs.Samples as sample
 
 inside : {a b : tree.ExprKind} → Some a ≡ Some b → a ≡ b
@@ -224,11 +228,30 @@ pub brace_refused : (m : Mode) (b : ℕ) (t : Token) (us : List Token) (f : Oper
     Exact (arguments kind.CloseBrace) nothing_continues b us (refused stop) → Exact (one (operand m)) nothing_continues (suc b) (t ∷ us) (refused stop)
 brace_refused m b t us f stop i e h = let z = operand_kind_is m t.kind t.word form.Literal (e ∙ i) in led_rest_refused stop one_deeper (brace_led m z.1 b t us z.0) (omega arith) h
 
--- a type
-pub type_answer : (m : Mode) (b : ℕ) (t : Token) (us : List Token) (f : OperandForm) (ty : Type_) (w : Expr) (n k : ℕ) (rest : List Token) → f ≡ form.Type → operand_form m t ≡ f →
-    Found (one (g.constructed Operand)) nothing_continues b (t ∷ us) ty n rest → w ≡ type_operand ty → k ≡ suc n → Found (one (operand m)) nothing_continues (suc b) (t ∷ us) w k rest
-type_answer m b t us f ty w n k rest i e found made high = answer_is (sym made) (omega (arith, high)) (led_rest one_deeper (type_led m b t us (e ∙ i)) (omega arith) found)
+-- a type, which may end before a `.`
+pub type_answer : (m : Mode) (b : ℕ) (t : Token) (us : List Token) (f : OperandForm) (ty : Type_) (w : Expr) (n k : ℕ) (rest : List Token) (end : End) → f ≡ form.Type → operand_form m t ≡ f →
+    FoundTo (one (g.constructed Operand)) nothing_continues b (t ∷ us) ty n rest end → w ≡ type_operand ty → k ≡ suc n → FoundTo (one (operand m)) nothing_continues (suc b) (t ∷ us) w k rest end
+type_answer m b t us f ty w n k rest end i e found made high = answer_to (sym made) (omega (arith, high)) (led_rest_to one_deeper (type_led m b t us (e ∙ i)) (omega arith) found)
 
 pub type_refused : (m : Mode) (b : ℕ) (t : Token) (us : List Token) (f : OperandForm) (stop : Stop) → f ≡ form.Type → operand_form m t ≡ f →
     Exact (one (g.constructed Operand)) nothing_continues b (t ∷ us) (refused stop) → Exact (one (operand m)) nothing_continues (suc b) (t ∷ us) (refused stop)
 type_refused m b t us f stop i e h = led_rest_refused stop one_deeper (type_led m b t us (e ∙ i)) (omega arith) h
+
+-- a procedure stands first
+pub proc_first : (m : Mode) (t : Token) (ts us : List Token) (f : OperandForm) → ts ≡ t ∷ us → f ≡ form.Proc → operand_form m t ≡ f → StartsWith kind.Proc ts
+proc_first m t ts us f is i e = subst (λ (l : List Token). StartsWith kind.Proc l) (sym is) (operand_kind_is m t.kind t.word form.Proc (e ∙ i))
+
+-- what is neither one token nor none has one of these forms
+pub no_other : (f : OperandForm) (t : Token) → leaf_of f t ≡ None → (f ≡ form.Nothing → ⊥) → (f ≡ form.Dot → ⊥) → (f ≡ form.Group → ⊥) → (f ≡ form.Literal → ⊥) → (f ≡ form.Type → ⊥) → (f ≡ form.Proc → ⊥) → ⊥
+no_other form.Dot t leaf some dot group literal type' proc = dot refl
+no_other form.Group t leaf some dot group literal type' proc = group refl
+no_other form.Literal t leaf some dot group literal type' proc = literal refl
+no_other form.Type t leaf some dot group literal type' proc = type' refl
+no_other form.Proc t leaf some dot group literal type' proc = proc refl
+no_other form.Nothing t leaf some dot group literal type' proc = some refl
+no_other form.Name t leaf some dot group literal type' proc = cc
+no_other form.Int t leaf some dot group literal type' proc = cc
+no_other form.Rune t leaf some dot group literal type' proc = cc
+no_other form.Text t leaf some dot group literal type' proc = cc
+no_other form.Context t leaf some dot group literal type' proc = cc
+no_other form.Location t leaf some dot group literal type' proc = cc

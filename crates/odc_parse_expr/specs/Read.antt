@@ -14,7 +14,8 @@ use Rattle.odc_syntax.specs.declared.grammar.Level.{Level}
 use Rattle.odc_parse_expr.specs.declared.stop.Stop.{Stop}
 use Rattle.odc_parse_expr.specs.declared.stop.Stop.TheVariants as stop
 use Rattle.odc_syntax.specs.declared.grammar.Mode.{Mode}
-use Rattle.odc_parse_expr.specs.Sets.{starts_suffix}
+use Rattle.odc_parse_expr.specs.Sets.{starts_suffix, continues}
+use Rattle.odc_syntax.specs.declared.grammar.Level.TheVariants.{Or}
 use Rattle.odc_parse_expr.specs.Exact.{Answer, Yes, Syntax, Deep, NoMemory}
 
 abbrev pub refused : {V : Type 0} → Stop → Answer V
@@ -56,6 +57,11 @@ NoOperator l (t ∷ ts) = (op : BinaryOp) → operator_of t.kind ≡ Some op →
 abbrev pub NoSuffix : Mode → List Token → Type 0
 NoSuffix m [] = Unit {0}
 NoSuffix m (t ∷ ts) = starts_suffix m t.kind ≡ false
+
+-- nothing with which any expression may go on stands first
+abbrev pub NothingGoesOn : Mode → List Token → Type 0
+NothingGoesOn m [] = Unit {0}
+NothingGoesOn m (t ∷ ts) = continues Or m t.kind ≡ false
 
 -- how a unary expression begins
 abbrev pub sign_form : Option UnaryOp → TokenKind → UnaryForm

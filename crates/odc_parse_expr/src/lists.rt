@@ -1,6 +1,6 @@
 //! How lists between commas go on.
 
-ghost use Rattle.std.specs.Prelude.{◌≡◌, true, IfSome, IfNone, IfOk, IfErr};
+ghost use Rattle.std.specs.Prelude.{◌≡◌, ◌<◌, ◌≤◌, length, true, IfSome, IfNone, IfOk, IfErr};
 ghost use Rattle.odc_parse_expr.specs.Lists.{Closed, Open, Ended, Again, NotGoing};
 
 use crate::stop::Stop;
@@ -18,6 +18,7 @@ pub fn after_item(
     ensures ended { IfOk result (λ r. IfSome r.0 (λ t. Ended close tokens.now t r.1.now)) }
     ensures again { IfOk result (λ r. IfNone r.0 (Again close tokens.now r.1.now)) }
     ensures within { IfOk result (λ r. within ≡ true) }
+    ensures shorter { IfOk result (λ r. length r.1.now < length tokens.now) }
     ensures refused { IfErr result (NotGoing close within tokens.now) }
 {
     match strip(tokens, close) {
@@ -45,6 +46,7 @@ pub fn after_item(
 fn behind_comma(tokens: &[Token], close: TokenKind) -> (Option<Token>, &[Token])
     ensures ended { IfSome result.0 (λ t. Closed close tokens.now t result.1.now) }
     ensures again { IfNone result.0 (Open close tokens.now result.1.now) }
+    ensures shorter { length result.1.now ≤ length tokens.now }
 {
     match strip(tokens, close) {
         Some((token, rest)) => (Some(token), rest),

@@ -5,7 +5,7 @@ ghost use Rattle.odc_syntax.specs.Grammar.{later};
 ghost use Rattle.odc_syntax.specs.declared.grammar.Level.TheVariants as level;
 ghost use Rattle.odc_syntax.specs.Operators.{prefix_of, operator_of, level_of};
 ghost use Rattle.odc_parse_expr.specs.Sets.{continues};
-ghost use Rattle.odc_parse_expr.specs.Read.{NoOperator};
+ghost use Rattle.odc_parse_expr.specs.Read.{NoOperator, NothingGoesOn};
 
 use crate::suffix::starts_suffix;
 use crate::tokens::first;
@@ -99,10 +99,24 @@ fn same_level(a: Level, b: Level) -> bool
 }
 
 /// Whether any expression that stands so may go on with a token of this kind.
-pub fn goes_on(mode: Mode, kind: TokenKind) -> bool
+fn goes_on(mode: Mode, kind: TokenKind) -> bool
     ensures { result ≡ continues level.Or mode kind }
 {
     starts_suffix(mode, kind) || operator_of(kind).is_some()
+}
+
+/// A first token with which any expression that stands so may go on, and the tokens behind it.
+pub fn going_on(mode: Mode, tokens: &[Token]) -> Option<(Token, &[Token])>
+    ensures is { IfSome result (λ r. tokens.now ≡ r.0 ∷ r.1.now) }
+    ensures on { IfSome result (λ r. continues level.Or mode r.0.kind ≡ true) }
+    ensures none { IfNone result (NothingGoesOn mode tokens.now) }
+{
+    let (token, rest) = first(tokens)?;
+    if goes_on(mode, token.kind) {
+        Some((token, rest))
+    } else {
+        None
+    }
 }
 
 /// An operator of this level that stands first, its token, and the tokens behind it.
