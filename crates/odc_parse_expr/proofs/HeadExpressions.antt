@@ -88,7 +88,7 @@ head_deep b ts left deep dead = record {
 }
 
 -- no bound allows one
-named_first : (ts : List Token) → Broken (one (g.expression mode.Header)) (continues Or mode.Header) 0 ts (length ts) → StartsWith kind.Name ts → ⊥
+pub named_first : (ts : List Token) → Broken (one (g.expression mode.Header)) (continues Or mode.Header) 0 ts (length ts) → StartsWith kind.Name ts → ⊥
 named_first [] broken f = f
 named_first (t ∷ us) broken f = broken.none 1 _ [] [] us nothing_clears (reads_name mode.Header t us f 0 []) (omega arith)
 
@@ -119,7 +119,7 @@ single_none ts f = record { run = unnamed ts f; value = sample.expr; pending = g
 pub single_name : (ts : List Token) (t : Token) (us : List Token) → ts ≡ t ∷ us → t.kind ≡ kind.Name → StartsWithout kind.Comma us → StartsWithout kind.Colon us → Single ts us
 single_name ts t us is e f k = subst (λ (l : List Token). Single l us) (sym is) (record { run = ended t us e f k; value = expr t.at t.at (tree.name t); pending = []; reach = reads_name mode.Header t us e 0 [] })
 
-single_beyond : (b : ℕ) (ts rest : List Token) (r : Answer Expr) → 0 < b → Single ts rest → Exact (one (g.expression mode.Header)) (continues Or mode.Header) b ts r → limit r ≤ 2 * length rest
+pub single_beyond : (b : ℕ) (ts rest : List Token) (r : Answer Expr) → 0 < b → Single ts rest → Exact (one (g.expression mode.Header)) (continues Or mode.Header) b ts r → limit r ≤ 2 * length rest
 single_beyond b ts rest r some z h = beyond (one (g.expression mode.Header)) (continues Or mode.Header) b ts r 1 z.value z.pending rest (omega (arith, some)) z.reach h
 
 pub head_single_refused : (b : ℕ) (ts rest : List Token) (e : Stop) → 0 < b → Single ts rest → Exact (one (g.expression mode.Header)) (continues Or mode.Header) b ts (refused e) → Exact head_line continues_head b ts (refused e)
@@ -155,7 +155,7 @@ assignment_goes kind.Semicolon op e = refl
 assignment_goes _ op e = ap is_assignment e
 
 -- a simple statement and its `;` go on behind the expression, one level deeper
-clause_goes : {s' : List Sym} {ts' : List Token} (b : ℕ) (ts : List Token) (v : Expr) (n : ℕ) (rest : List Token) → Found (one (g.expression mode.Header)) (continues Or mode.Header) b ts v n rest → (c : ℕ) (x : Stmt) (t : Token) (s : List Sym) →
+pub clause_goes : {s' : List Sym} {ts' : List Token} (b : ℕ) (ts : List Token) (v : Expr) (n : ℕ) (rest : List Token) → Found (one (g.expression mode.Header)) (continues Or mode.Header) b ts v n rest → (c : ℕ) (x : Stmt) (t : Token) (s : List Sym) →
     Reach s' ts' (g.simple mode.Header c x ∷ tok kind.Semicolon t ∷ s) ts → size s' ts' ≤ 2 * length rest → First continues_clause rest × (n < c)
 clause_goes {s'} {ts'} b ts v n rest found c x t s r h = let k = found.short in let z = behind_part tt r (omega (arith, h, k)) in by_rule c x z.as_symbols z.rule z.reach
   where
@@ -178,7 +178,7 @@ clause_goes {s'} {ts'} b ts v n rest found c x t s r h = let k = found.short in 
         let deep = z.1 in
         (z.0, omega (arith, deep))
 
-clause_ends : (rest : List Token) → EndsClause rest → First continues_clause rest → ⊥
+pub clause_ends : (rest : List Token) → EndsClause rest → First continues_clause rest → ⊥
 clause_ends [] e f = f
 clause_ends (t ∷ us) e f = let bad : true ≡ false = sym f ∙ e in cc
 
@@ -208,7 +208,7 @@ head_alone b ts place v n rest z ends =
     z.found last_clear)))
 
 -- a simple statement begins with the expression
-clause_head : (k : TokenKind) → continues_clause k ≡ true → continues_head k ≡ true
+pub clause_head : (k : TokenKind) → continues_clause k ≡ true → continues_head k ≡ true
 clause_head kind.Comma e = refl
 clause_head kind.Semicolon e = refl
 clause_head kind.Colon e = refl
@@ -262,7 +262,7 @@ goes_reads b ts v n rest t us found is (inr (op, e)) c h = (
 )
 
 -- behind what is as deep as it may be
-clause_reads : (b : ℕ) (ts : List Token) (v : Expr) (n : ℕ) (rest : List Token) (t : Token) (us : List Token) → Found (one (g.expression mode.Header)) (continues Or mode.Header) b ts v n rest → rest ≡ t ∷ us → GoesOn t.kind ⊎ (t.kind ≡ kind.Semicolon) → (c : ℕ) → n ≤ c →
+pub clause_reads : (b : ℕ) (ts : List Token) (v : Expr) (n : ℕ) (rest : List Token) (t : Token) (us : List Token) → Found (one (g.expression mode.Header)) (continues Or mode.Header) b ts v n rest → rest ≡ t ∷ us → GoesOn t.kind ⊎ (t.kind ≡ kind.Semicolon) → (c : ℕ) → n ≤ c →
     (x : Stmt) × ((s : List Sym) → (q : List Sym) × Reach q us (g.simple mode.Header (suc c) x ∷ tok kind.Semicolon t ∷ s) ts)
 clause_reads b ts v n rest t us found is (inl e) c h = let z = goes_reads b ts v n rest t us found is e c h in (z.0, λ s. z.1 (tok kind.Semicolon t ∷ s))
 clause_reads b ts v n rest t us found is (inr e) c h = (
@@ -279,7 +279,7 @@ assigned : (k : TokenKind) (o : Option AssignOp) → assignment_of k ≡ o → i
 assigned k (Some op) i e = (op, i)
 assigned k None i e = cc
 
-clause_kinds : (k : TokenKind) → continues_clause k ≡ true → GoesOn k ⊎ (k ≡ kind.Semicolon)
+pub clause_kinds : (k : TokenKind) → continues_clause k ≡ true → GoesOn k ⊎ (k ≡ kind.Semicolon)
 clause_kinds kind.Comma e = inl (inl refl)
 clause_kinds kind.Semicolon e = inr refl
 clause_kinds k e = inl (inr (assigned k (assignment_of k) refl e))
@@ -314,18 +314,18 @@ head_over b ts place v n rest t us z is on over =
     }
 
 -- a comma or an operator of an assignment follows
-goes_clause : (k : TokenKind) → GoesOn k → continues_clause k ≡ true
+pub goes_clause : (k : TokenKind) → GoesOn k → continues_clause k ≡ true
 goes_clause k (inl e) = ap continues_clause e
 goes_clause k (inr (op, e)) = assignment_goes k op e
 
-clause_limit : (b d : ℕ) (ts : List Token) (v : Expr) (n : ℕ) (rest : List Token) (t : Token) (us : List Token) (r : Answer Stmt) → b ≡ suc d → Found (one (g.expression mode.Header)) (continues Or mode.Header) b ts v n rest → n ≤ d → rest ≡ t ∷ us → GoesOn t.kind →
+pub clause_limit : (b d : ℕ) (ts : List Token) (v : Expr) (n : ℕ) (rest : List Token) (t : Token) (us : List Token) (r : Answer Stmt) → b ≡ suc d → Found (one (g.expression mode.Header)) (continues Or mode.Header) b ts v n rest → n ≤ d → rest ≡ t ∷ us → GoesOn t.kind →
     Exact (one (g.simple mode.Header)) (continues_simple mode.Header) b ts r → limit r ≤ 2 * length us
 clause_limit b d ts v n rest t us r e found within is on h =
     let z = goes_reads b ts v n rest t us found is on d within in
     let y = z.1 [] in
     beyond (one (g.simple mode.Header)) (continues_simple mode.Header) b ts r (suc d) z.0 y.0 us (omega (arith, e)) y.1 h
 
-stop_clause : (b d : ℕ) (ts : List Token) (v : Expr) (n : ℕ) (rest : List Token) (t : Token) (us : List Token) (e : Stop) → b ≡ suc d → Found (one (g.expression mode.Header)) (continues Or mode.Header) b ts v n rest → n ≤ d → rest ≡ t ∷ us → GoesOn t.kind →
+pub stop_clause : (b d : ℕ) (ts : List Token) (v : Expr) (n : ℕ) (rest : List Token) (t : Token) (us : List Token) (e : Stop) → b ≡ suc d → Found (one (g.expression mode.Header)) (continues Or mode.Header) b ts v n rest → n ≤ d → rest ≡ t ∷ us → GoesOn t.kind →
     Exact (one (g.simple mode.Header)) (continues_simple mode.Header) b ts (refused e) → stop_limit e ≤ 2 * length us
 stop_clause b d ts v n rest t us (stop.Syntax left) e found within is on h = clause_limit b d ts v n rest t us (refused (stop.Syntax left)) e found within is on h
 stop_clause b d ts v n rest t us (stop.Deep left) e found within is on h = clause_limit b d ts v n rest t us (refused (stop.Deep left)) e found within is on h

@@ -70,7 +70,7 @@ not_expression {s'} {ts'} (listed t k us rest e f d) m c x s clear goes r h =
     let z = (name_whole m t (k ∷ us) e (ap (continues Or m) f)).only c x s s' ts' (clear_narrow goes clear) r (omega (arith, h, short)) in
     clear.stops k us s' ts' (ap continues_head f) z.reach (omega (arith, h, short))
 
-header_goes : (k : TokenKind) → continues Or mode.Header k ≡ true → continues_head k ≡ true
+pub header_goes : (k : TokenKind) → continues Or mode.Header k ≡ true → continues_head k ≡ true
 header_goes k e = head_goes k (goes_on_simple mode.Header k (goes_on_exprs mode.Header k e))
 
 pub semicolon_clear : (cont : TokenKind → Bool) → cont kind.Semicolon ≡ false → (t : Token) (s : List Sym) → Clear cont (tok kind.Semicolon t ∷ s)
@@ -81,7 +81,7 @@ semicolon_clear cont e t s = record {
       cc;
 }
 
-no_colon_semicolon : {s' : List Sym} {ts' : List Token} (t : Token) (s : List Sym) (rest : List Token) → size s' ts' ≤ 2 * length rest → (k : Token) → k.kind ≡ kind.Colon → Reach s' ts' (tok kind.Semicolon t ∷ s) (k ∷ rest) → ⊥
+pub no_colon_semicolon : {s' : List Sym} {ts' : List Token} (t : Token) (s : List Sym) (rest : List Token) → size s' ts' ≤ 2 * length rest → (k : Token) → k.kind ≡ kind.Colon → Reach s' ts' (tok kind.Semicolon t ∷ s) (k ∷ rest) → ⊥
 no_colon_semicolon t s rest h k e r = let is : k.kind ≡ kind.Semicolon = reach_opens r (omega (arith, h)) in cc
 
 -- a declaration
@@ -115,7 +115,7 @@ declared_leads b ts rest d =
 pub closed_clear : (cont : TokenKind → Bool) → cont kind.Semicolon ≡ false → (c : ℕ) (u : Token × (Expr × Unit {0})) (s : List Sym) → Clear continues_head s → Clear cont (closed_line c u ++ s)
 closed_clear cont e c u s clear = token_clear cont kind.Semicolon e condition_line c u s
 
-declaration_limit : (b : ℕ) (ts rest : List Token) (e : Stop) → 0 < b → Declares ts rest → Exact (one (g.declaration mode.Header)) (continues_declaration mode.Header) b ts (refused e) → stop_limit e ≤ 2 * length rest
+pub declaration_limit : (b : ℕ) (ts rest : List Token) (e : Stop) → 0 < b → Declares ts rest → Exact (one (g.declaration mode.Header)) (continues_declaration mode.Header) b ts (refused e) → stop_limit e ≤ 2 * length rest
 declaration_limit b ts rest (stop.Syntax left) some d h = declaration_beyond mode.Header b (refused (stop.Syntax left)) d some h
 declaration_limit b ts rest (stop.Deep left) some d h = declaration_beyond mode.Header b (refused (stop.Deep left)) d some h
 declaration_limit b ts rest stop.Memory some d h = omega arith
@@ -192,7 +192,7 @@ listed_leads b ts rest d =
     leads_start b ts simple_line with_simple (2 * length rest) (stmt sample.place tree.fallthrough, (sample.token, (sample.expr, tt))) same_depth (omega arith) (λ c u s. write _ header_simple here)
     (λ c w s s' ts' clear r h. let z = behind_part tt r (omega (arith, h, short)) in listed_by d c w.0 w.1.0 s clear (by_header c w.0 z.as_symbols z.rule (g.expression mode.Header c w.1.0 ∷ s) ts z.reach) h)
 
-simple_limit : (b : ℕ) (ts rest : List Token) (e : Stop) → 1 < b → Undeclared ts rest → Exact (one (g.simple mode.Header)) (continues_simple mode.Header) b ts (refused e) → stop_limit e ≤ 2 * length rest
+pub simple_limit : (b : ℕ) (ts rest : List Token) (e : Stop) → 1 < b → Undeclared ts rest → Exact (one (g.simple mode.Header)) (continues_simple mode.Header) b ts (refused e) → stop_limit e ≤ 2 * length rest
 simple_limit b ts rest (stop.Syntax left) some d h = simple_beyond mode.Header b (refused (stop.Syntax left)) d some h
 simple_limit b ts rest (stop.Deep left) some d h = simple_beyond mode.Header b (refused (stop.Deep left)) d some h
 simple_limit b ts rest stop.Memory some d h = omega arith

@@ -55,6 +55,7 @@ pub mod RefusedLemmas
 pub mod Deciding
 pub mod ExprsLemmas
 pub mod SimpleLemmas
+pub mod SimpleAnswers
 pub mod NameLemmas
 pub mod DeclarationLemmas
 pub mod InitialLemmas
@@ -76,3 +77,9 @@ pub mod HeadExpressions
 pub mod LawLemmas
 pub mod BlameLemmas
 pub mod Carrying
+pub mod Within
+pub mod ClauseLemmas
+pub mod ClauseExpressions
+pub mod SpanLemmas
+pub mod ItemLemmas
+pub mod CasesLemmas

@@ -36,6 +36,12 @@ pub mod Runs
 pub mod StatementForms
 -- parts of blocks and bodies that functions read of their own
 pub mod BodyParts
+-- what may stand at the start of a header
+pub mod Clauses
+-- which kinds of tokens go on with values of cases and with cases
+pub mod SwitchSets
+-- the clean forms of the values and cases of switches
+pub mod Switches
 -- the clean forms of what the functions on statements give
 pub mod Statements
 -- what the public calls answer
