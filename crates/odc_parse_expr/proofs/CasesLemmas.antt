@@ -18,7 +18,7 @@ use Rattle.odc_parse_expr.specs.SwitchSets.{begins_items, continues_cases}
 use Rattle.odc_parse_expr.specs.Switches.{with_case, cases}
 use Rattle.odc_parse_expr.proofs.Opening.{reach_opens}
 use Rattle.odc_parse_expr.proofs.Reaching.{behind_part, behind_token}
-use Rattle.odc_parse_expr.proofs.Leading.{same_depth, Pending, Led, led_part, led_done, first_is, without}
+use Rattle.odc_parse_expr.proofs.Leading.{same_depth, Led, led_part, led_done, first_is, without}
 use Rattle.odc_parse_expr.proofs.Answering.{led_step, led_over, part_refused, token_refused, token_read, answer_is, Stepped}
 use Rattle.odc_parse_expr.proofs.SuffixLemmas.{at_rest}
 use Rattle.odc_parse_expr.proofs.SuffixAnswers.{token_clear}

@@ -1,5 +1,5 @@
 -- Expressions at the start of a header: alone, or as the first of a simple statement.
-use Rattle.std.proofs.Common.{◌≡◌, ℕ, suc, ◌-◌, ◌*◌, ◌<◌, ◌≤◌, max, Bool, true, false, List, [], ◌∷◌, ◌++◌, length, refl, sym, ◌∙◌, ap, subst, arith, ◌⊎◌, inl, inr}
+use Rattle.std.proofs.Common.{◌≡◌, ℕ, suc, ◌-◌, ◌*◌, ◌<◌, ◌≤◌, max, Bool, true, List, ◌∷◌, ◌++◌, length, refl, sym, ap, subst, arith}
 use Rattle.odc_syntax.specs.declared.token.Token.{Token}
 use Rattle.odc_syntax.specs.declared.token.TokenKind.{TokenKind}
 use Rattle.odc_syntax.specs.declared.token.TokenKind.TheVariants as kind
@@ -12,25 +12,22 @@ use Rattle.odc_syntax.specs.Grammar as g
 use Rattle.odc_syntax.specs.Derives.{Reach, here}
 use Rattle.odc_parse_expr.specs.declared.stop.Stop.{Stop}
 use Rattle.odc_parse_expr.specs.declared.stop.Stop.TheVariants as stop
-use Rattle.odc_parse_expr.specs.Exact.{size, Clear, Part, one, ComesAt, Comes, then_, token, Exact, Answer, Yes, Found, Broken, TooDeep}
+use Rattle.odc_parse_expr.specs.Exact.{size, Clear, Part, one, ComesAt, Comes, then_, token, Exact, Yes, Found, Broken, TooDeep}
 use Rattle.odc_parse_expr.specs.Read.{refused}
 use Rattle.odc_parse_expr.specs.Clauses.{Clause, declared, assigned, alone, clause_then}
 use Rattle.odc_parse_expr.specs.Sets.{continues}
 use Rattle.odc_parse_expr.specs.StatementSets.{continues_simple, continues_head, continues_clause}
-use Rattle.odc_parse_expr.proofs.Opening.{reach_opens}
 use Rattle.odc_parse_expr.proofs.Reaching.{along}
-use Rattle.odc_parse_expr.proofs.Leading.{Rises, Pending, Led}
+use Rattle.odc_parse_expr.proofs.Leading.{Rises, Led}
 use Rattle.odc_parse_expr.proofs.Answering.{Stepped}
 use Rattle.odc_parse_expr.proofs.SuffixAnswers.{token_clear}
-use Rattle.odc_parse_expr.proofs.WholeLemmas.{costs_expression}
 use Rattle.odc_parse_expr.proofs.ExprsLemmas.{exprs_refused}
-use Rattle.odc_parse_expr.proofs.SimpleLemmas.{simple_refused, Costly, comes_nowhere}
-use Rattle.odc_parse_expr.proofs.DeclarationLemmas.{costs_declaration}
+use Rattle.odc_parse_expr.proofs.SimpleLemmas.{simple_refused}
 use Rattle.odc_parse_expr.proofs.RunLemmas.{not_declared}
 use Rattle.odc_parse_expr.proofs.HeadLemmas.{head_clear, semicolon_clear}
-use Rattle.odc_parse_expr.proofs.HeadExpressions.{Single, single_beyond, HeadExpression, named_first, clause_goes, clause_head, GoesOn, goes_clause, clause_limit, stop_clause, clause_kinds, clause_reads}
+use Rattle.odc_parse_expr.proofs.HeadExpressions.{Single, single_beyond, HeadExpression, clause_goes, clause_head, GoesOn, goes_clause, clause_limit, stop_clause, clause_kinds, clause_reads}
 use Rattle.odc_parse_expr.proofs.Within.{leads_within}
-use Rattle.odc_parse_expr.proofs.Deciding.{limit, stop_limit, Leads, leads_less, leads_part, leads_part_refused, leads_token, leads_led}
+use Rattle.odc_parse_expr.proofs.Deciding.{stop_limit, Leads, leads_less, leads_part, leads_part_refused, leads_token, leads_led}
 use Rattle.odc_parse_expr.proofs.Samples as sample
 
 comes_up : {V : Type 0} {p : Part V} {up : ℕ → ℕ} {ts : List Token} {left d : ℕ} → Rises up → ((c : ℕ) → d ≤ c → ComesAt p (up c) ts left) → Comes p (up d) ts left

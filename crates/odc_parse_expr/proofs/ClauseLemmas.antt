@@ -1,6 +1,6 @@
 -- What may stand at the start of the header of `if`, `for` and `switch`: a declaration or a simple statement
 -- with its `;`, or an expression alone. They are told apart here, whatever stands behind them.
-use Rattle.std.proofs.Common.{◌≡◌, ℕ, suc, ◌-◌, ◌*◌, ◌<◌, ◌≤◌, max, Bool, true, false, ◌||◌, List, [], ◌∷◌, ◌++◌, length, refl, sym, ◌∙◌, ap, subst, arith, Option, Some, None, ◌⊎◌, inl, inr}
+use Rattle.std.proofs.Common.{◌≡◌, ℕ, ◌*◌, ◌<◌, ◌≤◌, max, Bool, false, List, ◌∷◌, ◌++◌, length, refl, ap, subst, arith, None}
 use Rattle.odc_syntax.specs.declared.token.Token.{Token}
 use Rattle.odc_syntax.specs.declared.token.TokenKind.{TokenKind}
 use Rattle.odc_syntax.specs.declared.token.TokenKind.TheVariants as kind
@@ -10,28 +10,23 @@ use Rattle.odc_syntax.specs.Tree.{Expr, Stmt, stmt, Decl, decl, first_of}
 use Rattle.odc_syntax.specs.Tree as tree
 use Rattle.odc_syntax.specs.Grammar.{Sym, tok}
 use Rattle.odc_syntax.specs.Grammar as g
-use Rattle.odc_syntax.specs.Derives.{Reach, here, StartsWithout}
+use Rattle.odc_syntax.specs.Derives.{Reach, here}
 use Rattle.odc_parse_expr.specs.declared.stop.Stop.{Stop}
-use Rattle.odc_parse_expr.specs.declared.stop.Stop.TheVariants as stop
-use Rattle.odc_parse_expr.specs.Exact.{size, Clear, Part, one, ComesAt, Comes, then_, token, Exact, Answer, Yes, Found, Broken, TooDeep}
+use Rattle.odc_parse_expr.specs.Exact.{size, Clear, Part, one, then_, token, Exact, Yes, Found}
 use Rattle.odc_parse_expr.specs.Read.{refused, NotExpected}
 use Rattle.odc_parse_expr.specs.Clauses.{Clause, declared, assigned, alone, clause_then}
 use Rattle.odc_parse_expr.specs.Runs.{Declares}
 use Rattle.odc_parse_expr.specs.Sets.{continues}
-use Rattle.odc_parse_expr.specs.StatementSets.{continues_simple, continues_declaration, continues_head, continues_clause, EndsClause}
-use Rattle.odc_parse_expr.proofs.Opening.{reach_opens}
-use Rattle.odc_parse_expr.proofs.Reaching.{along}
-use Rattle.odc_parse_expr.proofs.Leading.{Rises, Pending, Led, token_missing}
+use Rattle.odc_parse_expr.specs.StatementSets.{continues_simple, continues_declaration, continues_head, EndsClause}
+use Rattle.odc_parse_expr.proofs.Leading.{Rises, Led}
 use Rattle.odc_parse_expr.proofs.Answering.{token_refused, token_read, Stepped}
 use Rattle.odc_parse_expr.proofs.SuffixAnswers.{token_clear}
 use Rattle.odc_parse_expr.proofs.WholeLemmas.{name_whole}
-use Rattle.odc_parse_expr.proofs.ExprsLemmas.{exprs_refused}
-use Rattle.odc_parse_expr.proofs.SimpleLemmas.{simple_refused}
-use Rattle.odc_parse_expr.proofs.RunLemmas.{run_short, declares_short, not_declared, not_simple, simple_beyond, declaration_beyond}
+use Rattle.odc_parse_expr.proofs.RunLemmas.{run_short, not_declared, not_simple, simple_beyond, declaration_beyond}
 use Rattle.odc_parse_expr.proofs.HeadLemmas.{head_clear, semicolon_clear, not_expression, header_goes, no_colon_semicolon, declaration_limit, simple_limit, Listed, listed_run}
-use Rattle.odc_parse_expr.proofs.HeadExpressions.{Single, single_beyond, HeadExpression, clause_goes, clause_ends, clause_head, GoesOn, goes_clause, clause_limit, stop_clause, clause_kinds, clause_reads}
+use Rattle.odc_parse_expr.proofs.HeadExpressions.{single_beyond, HeadExpression, clause_goes, clause_ends}
 use Rattle.odc_parse_expr.proofs.Within.{leads_within}
-use Rattle.odc_parse_expr.proofs.Deciding.{limit, stop_limit, Leads, leads_less, leads_part, leads_part_refused, leads_token, leads_led}
+use Rattle.odc_parse_expr.proofs.Deciding.{Leads, leads_less, leads_part, leads_part_refused, leads_led}
 use Rattle.odc_parse_expr.proofs.Samples as sample
 
 module _ {V U : Type 0} {p : Part V} {cont : TokenKind → Bool} {up : ℕ → ℕ} {b : ℕ} {ts ws : List Token} (bare closed : Part U) {f : Clause × U → V} (rises : Rises up)

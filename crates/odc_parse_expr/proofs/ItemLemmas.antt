@@ -1,5 +1,5 @@
 -- The values of a case, between commas.
-use Rattle.std.proofs.Common.{◌≡◌, ℕ, suc, ◌*◌, ◌<◌, ◌≤◌, max, Bool, true, false, ◌||◌, List, [], ◌∷◌, ◌++◌, length, refl, sym, ◌∙◌, ap, subst, arith}
+use Rattle.std.proofs.Common.{◌≡◌, ℕ, suc, ◌*◌, ◌<◌, ◌≤◌, max, true, false, List, [], ◌∷◌, ◌++◌, length, refl, sym, ◌∙◌, ap, subst, arith}
 use Rattle.odc_syntax.specs.declared.token.Token.{Token}
 use Rattle.odc_syntax.specs.declared.token.TokenKind.{TokenKind}
 use Rattle.odc_syntax.specs.declared.token.TokenKind.TheVariants as kind
@@ -19,9 +19,8 @@ use Rattle.odc_parse_expr.specs.SwitchSets.{continues_span, continues_items, beg
 use Rattle.odc_parse_expr.specs.Switches.{span_of, spans}
 use Rattle.odc_parse_expr.proofs.Opening.{reach_opens}
 use Rattle.odc_parse_expr.proofs.Reaching.{behind_part, behind_token}
-use Rattle.odc_parse_expr.proofs.Leading.{same_depth, Pending, Led, led_part, led_done, without}
+use Rattle.odc_parse_expr.proofs.Leading.{same_depth, Led, led_part, led_done, without}
 use Rattle.odc_parse_expr.proofs.Answering.{led_step, led_over, part_refused, answer_is, Stepped}
-use Rattle.odc_parse_expr.proofs.BinaryLemmas.{clear_narrow}
 use Rattle.odc_parse_expr.proofs.SuffixLemmas.{at_rest}
 use Rattle.odc_parse_expr.proofs.SimpleLemmas.{or_left, or_right}
 use Rattle.odc_parse_expr.proofs.StmtsLemmas.{led_itself}

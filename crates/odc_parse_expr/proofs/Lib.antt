@@ -83,3 +83,7 @@ pub mod ClauseExpressions
 pub mod SpanLemmas
 pub mod ItemLemmas
 pub mod CasesLemmas
+pub mod LoopLemmas
+pub mod StepLemmas
+pub mod AfterLemmas
+pub mod SwitchLemmas

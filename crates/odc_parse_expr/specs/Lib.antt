@@ -38,10 +38,14 @@ pub mod StatementForms
 pub mod BodyParts
 -- what may stand at the start of a header
 pub mod Clauses
+-- what may stand behind `for`
+pub mod Loops
 -- which kinds of tokens go on with values of cases and with cases
 pub mod SwitchSets
 -- the clean forms of the values and cases of switches
 pub mod Switches
+-- what may stand behind `switch`
+pub mod SwitchParts
 -- the clean forms of what the functions on statements give
 pub mod Statements
 -- what the public calls answer
