@@ -20,7 +20,7 @@ use Rattle.odc_parse_expr.proofs.Reaching.{behind_part}
 use Rattle.odc_parse_expr.proofs.Leading.{Rises, same_depth, Led}
 use Rattle.odc_parse_expr.proofs.Answering.{led_over, Stepped}
 use Rattle.odc_parse_expr.proofs.StatementLemmas.{some_stmt}
-use Rattle.odc_parse_expr.proofs.StepLemmas.{after_line}
+use Rattle.odc_parse_expr.specs.Loops.{after_line}
 use Rattle.odc_parse_expr.proofs.Deciding.{led_here}
 use Rattle.odc_parse_expr.proofs.Optional.{OpensBy, Turns, Into, optional_found, optional_refused}
 use Rattle.odc_parse_expr.proofs.Samples as sample
@@ -36,15 +36,15 @@ body_starts kind.Do e f = cc
 body_starts _ e f = cc
 
 -- a body begins with a brace or `do`, whatever its depth
-body_of : (k : TokenKind) → is_body k ≡ true → Stmts
+pub body_of : (k : TokenKind) → is_body k ≡ true → Stmts
 body_of kind.OpenBrace f = tree.no_stmts
 body_of _ f = tree.more_stmts some_stmt tree.no_stmts
 
-body_left : (c : ℕ) (k : TokenKind) → is_body k ≡ true → List Sym → List Sym
+pub body_left : (c : ℕ) (k : TokenKind) → is_body k ≡ true → List Sym → List Sym
 body_left c kind.OpenBrace f s = g.stmts c tree.no_stmts ∷ tok kind.CloseBrace sample.token ∷ s
 body_left c _ f s = g.statement c some_stmt ∷ s
 
-body_begins : (c : ℕ) (t : Token) (us : List Token) (k : TokenKind) → t.kind ≡ k → (f : is_body k ≡ true) → (s : List Sym) → Reach (body_left c k f s) us (g.body c (body_of k f) ∷ s) (t ∷ us)
+pub body_begins : (c : ℕ) (t : Token) (us : List Token) (k : TokenKind) → t.kind ≡ k → (f : is_body k ≡ true) → (s : List Sym) → Reach (body_left c k f s) us (g.body c (body_of k f) ∷ s) (t ∷ us)
 unfolding body_of body_left
 body_begins c t us kind.OpenBrace e f s = write _ (g.body_braces {o = t}) (read e here)
 body_begins c t us kind.Do e f s = write _ (g.body_do {t = t}) (read e here)

@@ -80,7 +80,7 @@ body_kinds kind.OpenBrace e f h = f refl
 body_kinds kind.Do e f h = h refl
 body_kinds _ e f h = cc
 
-no_body_first : (ts : List Token) → StartsWithout kind.OpenBrace ts → StartsWithout kind.Do ts → First is_body ts → ⊥
+pub no_body_first : (ts : List Token) → StartsWithout kind.OpenBrace ts → StartsWithout kind.Do ts → First is_body ts → ⊥
 no_body_first [] f k h = h
 no_body_first (t ∷ ts) f k h = body_kinds t.kind h f k
 

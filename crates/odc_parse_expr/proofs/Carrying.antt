@@ -1,10 +1,11 @@
 -- An answer in the words of a function's result.
-use Rattle.std.proofs.Common.{◌≡◌, ℕ, suc, Bool, List, ◌∷◌, sym, subst}
+use Rattle.std.proofs.Common.{◌≡◌, ◌<◌, ◌≤◌, ◌∙◌, ℕ, suc, Bool, true, false, List, ◌∷◌, sym, subst}
+use Rattle.std.proofs.Math.Nat.{lt_of_not-le}
 use Rattle.odc_syntax.specs.declared.token.Token.{Token}
 use Rattle.odc_syntax.specs.declared.token.TokenKind.{TokenKind}
 use Rattle.odc_parse_expr.specs.declared.stop.Stop.{Stop}
 use Rattle.odc_parse_expr.specs.declared.end.End.{End}
-use Rattle.odc_parse_expr.specs.Exact.{Part, Exact, Answer}
+use Rattle.odc_parse_expr.specs.Exact.{Part, Exact, Found, Answer}
 use Rattle.odc_parse_expr.specs.Ends.{FoundTo, ExactTo}
 use Rattle.odc_parse_expr.specs.Read.{refused}
 use Rattle.odc_parse_expr.specs.Sets.{nothing_continues}
@@ -51,3 +52,11 @@ pub answer_to : {V : Type 0} {p : Part V} {cont : TokenKind → Bool} {b : ℕ} 
     FoundTo p cont b ts v n rest end → FoundTo p cont b ts w m rest end
 answer_to {V} {p} {cont} {b} {ts} {v} {w} {n} {m} {rest} {end} e f h =
     subst (λ (x : V). FoundTo p cont b ts x m rest end) e (subst (λ (k : ℕ). FoundTo p cont b ts v k rest end) f h)
+
+pub found_from : {V : Type 0} {p : Part V} {cont : TokenKind → Bool} {b : ℕ} {ts : List Token} {v : V} {n : ℕ} {rest : List Token} (t : Token) (us : List Token) → ts ≡ t ∷ us →
+    Found p cont b (t ∷ us) v n rest → Found p cont b ts v n rest
+found_from {V} {p} {cont} {b} {ts} {v} {n} {rest} t us is h = subst (λ (l : List Token). Found p cont b l v n rest) (sym is) h
+
+-- what a test says that was made before
+pub over_by : (w : Bool) (n d : ℕ) → (n ≤ d → w ≡ true) → w ≡ false → d < n
+over_by w n d k over = lt_of_not-le (λ h. let bad : true ≡ false = sym (k h) ∙ over in cc)

@@ -15,7 +15,7 @@ use Rattle.odc_parse_expr.specs.Exact.{size, Clear, Part, one, then_, done, toke
 use Rattle.odc_parse_expr.specs.Read.{refused, NotExpected}
 use Rattle.odc_parse_expr.specs.StatementSets.{continues_statements}
 use Rattle.odc_parse_expr.specs.SwitchSets.{begins_items, continues_cases}
-use Rattle.odc_parse_expr.specs.Switches.{with_case, cases}
+use Rattle.odc_nodes.specs.SwitchViews.{with_case, cases}
 use Rattle.odc_parse_expr.proofs.Opening.{reach_opens}
 use Rattle.odc_parse_expr.proofs.Reaching.{behind_part, behind_token}
 use Rattle.odc_parse_expr.proofs.Leading.{same_depth, Led, led_part, led_done, first_is, without}

@@ -30,7 +30,7 @@ use Rattle.odc_parse_expr.proofs.Within.{leads_within}
 use Rattle.odc_parse_expr.proofs.Deciding.{stop_limit, Leads, leads_less, leads_part, leads_part_refused, leads_token, leads_led}
 use Rattle.odc_parse_expr.proofs.Samples as sample
 
-comes_up : {V : Type 0} {p : Part V} {up : ℕ → ℕ} {ts : List Token} {left d : ℕ} → Rises up → ((c : ℕ) → d ≤ c → ComesAt p (up c) ts left) → Comes p (up d) ts left
+pub comes_up : {V : Type 0} {p : Part V} {up : ℕ → ℕ} {ts : List Token} {left d : ℕ} → Rises up → ((c : ℕ) → d ≤ c → ComesAt p (up c) ts left) → Comes p (up d) ts left
 comes_up {V} {p} {up} {ts} {left} {d} rises f = record {
   at = λ c h. let q = rises.pred d c h in subst (λ (m : ℕ). ComesAt p m ts left) (sym q.1.0) (f q.0 q.1.1);
 }
@@ -40,7 +40,7 @@ module _ {V U : Type 0} {p : Part V} {cont : TokenKind → Bool} {up : ℕ → �
   abbrev behind_closed : Part (Token × U)
   behind_closed = then_ (token kind.Semicolon) closed
 
-  expression_comes : (d left : ℕ) → Comes (one (g.expression mode.Header)) d ts left → Comes p (up d) ws left
+  pub expression_comes : (d left : ℕ) → Comes (one (g.expression mode.Header)) d ts left → Comes p (up d) ws left
   expression_comes d left comes =
       comes_up rises (λ c h.
       let a = comes.at c h in
@@ -60,7 +60,7 @@ module _ {V U : Type 0} {p : Part V} {cont : TokenKind → Bool} {up : ℕ → �
       simple.none c x (tok kind.Semicolon t ∷ (closed c u ++ s)) s' ts' (semicolon_clear (continues_simple mode.Header) refl t (closed c u ++ s)) r h
   broken_by {s'} {ts'} left broken dead c (alone e) u s clear r h = broken.none c e (bare c u ++ s) s' ts' (head_clear (stops c u s clear)) r h
 
-  clause_broken : (left : ℕ) → 2 * left ≤ far → Broken (one (g.expression mode.Header)) (continues Or mode.Header) b ts left → ((c : ℕ) (d : _) (s s' : List Sym) (ts' : List Token) → Reach s' ts' (g.declaration mode.Header c d ∷ s) ts → size s' ts' ≤ 2 * left → ⊥) → Broken p cont (up b) ws left
+  pub clause_broken : (left : ℕ) → 2 * left ≤ far → Broken (one (g.expression mode.Header)) (continues Or mode.Header) b ts left → ((c : ℕ) (d : _) (s s' : List Sym) (ts' : List Token) → Reach s' ts' (g.declaration mode.Header c d ∷ s) ts → size s' ts' ≤ 2 * left → ⊥) → Broken p cont (up b) ws left
   clause_broken left within broken dead = record {
     short = let h = led.short in let k = broken.short in omega (arith, h, k);
     comes = expression_comes b left broken.comes;
@@ -78,7 +78,7 @@ module _ {V U : Type 0} {p : Part V} {cont : TokenKind → Bool} {up : ℕ → �
       omega (arith, over)
   deep_by {s'} {ts'} left deep dead c (alone e) u s clear r h = deep.deep c e (bare c u ++ s) s' ts' (head_clear (stops c u s clear)) r h
 
-  clause_deep : (left : ℕ) → suc (2 * left) ≤ far → TooDeep (one (g.expression mode.Header)) (continues Or mode.Header) b ts left → ((c : ℕ) (d : _) (s s' : List Sym) (ts' : List Token) → Reach s' ts' (g.declaration mode.Header c d ∷ s) ts → size s' ts' ≤ suc (2 * left) → b < c) →
+  pub clause_deep : (left : ℕ) → suc (2 * left) ≤ far → TooDeep (one (g.expression mode.Header)) (continues Or mode.Header) b ts left → ((c : ℕ) (d : _) (s s' : List Sym) (ts' : List Token) → Reach s' ts' (g.declaration mode.Header c d ∷ s) ts → size s' ts' ≤ suc (2 * left) → b < c) →
       TooDeep p cont (up b) ws left
   clause_deep left within deep dead = record {
     short = let h = led.short in let k = deep.short in omega (arith, h, k);

@@ -173,3 +173,13 @@ exprs_answer m b ts xs n rest led open' =
     answer_is (exprs_onto_none xs) refl
     (led_done same_depth
     (led_here done (λ u. (tree.no_exprs, tt)) tt (λ c w s. write [] exprs_end here) (λ c u s s' ts' clear r h. let z = behind_part tt r h in end_by m rest open' c u.0 z.as_symbols z.rule s z.reach h) led))
+
+-- one expression alone
+pub exprs_alone : (m : Mode) (b : ℕ) (ts : List Token) (v : tree.Expr) (n : ℕ) (rest : List Token) → Found (one (g.expression m)) (continues Or m) b ts v n rest → StartsWithout kind.Comma rest →
+    Found (one (g.exprs m)) (continues_exprs m) b ts (tree.more_exprs v tree.no_exprs) n rest
+unfolding then_ done
+exprs_alone m b ts v n rest found open' =
+    answer_is refl (zero_max n)
+    (led_done same_depth
+    (led_here done (λ u. (tree.no_exprs, tt)) tt (λ c w s. write [] exprs_end here) (λ c u s s' ts' clear r h. let z = behind_part tt r h in end_by m rest open' c u.0 z.as_symbols z.rule s z.reach h)
+    (led_part same_depth (all_led m b ts) (omega arith) found (first_clears m))))

@@ -16,7 +16,7 @@ use Rattle.odc_parse_expr.specs.Exact.{size, Clear, Part, one, then_, done, Exac
 use Rattle.odc_parse_expr.specs.Read.{refused}
 use Rattle.odc_parse_expr.specs.Sets.{starts_expression}
 use Rattle.odc_parse_expr.specs.SwitchSets.{continues_span, continues_items, begins_items}
-use Rattle.odc_parse_expr.specs.Switches.{span_of, spans}
+use Rattle.odc_nodes.specs.SwitchViews.{span_of, spans}
 use Rattle.odc_parse_expr.proofs.Opening.{reach_opens}
 use Rattle.odc_parse_expr.proofs.Reaching.{behind_part, behind_token}
 use Rattle.odc_parse_expr.proofs.Leading.{same_depth, Led, led_part, led_done, without}

@@ -175,7 +175,7 @@ no_label {s'} {ts'} (named t k us e f) none u v b at l s r h =
   where
     by_rest : (us : List Token) → NotLabelled (t ∷ k ∷ us) → Reach s' ts' (g.labelled_ b at l ∷ s) us → size s' ts' ≤ 2 * length us → ⊥
     by_rest [] none r h = reach_opens r h
-    by_rest (x ∷ us) none r h = none t k x us refl f (labelled_first x us b at l s r h)
+    by_rest (x ∷ us) none r h = none t k x us refl e f (labelled_first x us b at l s r h)
 
 declare_by : {s' : List Sym} {ts' ts rest : List Token} → Declares ts rest → NotLabelled ts → (t : Token) (us : List Token) → ts ≡ t ∷ us → t.kind ≡ kind.Name → (c : ℕ) (w : Stmt) (p : List Sym) → (rule : Rule (g.statement c w) p) → forms rule form.Named ≡ true →
     (s : List Sym) → Clear continues_statement s → Reach s' ts' (p ++ s) ts → size s' ts' ≤ 2 * length rest → Pending (λ n. suc n) (one (g.declaration Free)) declare_node 0 ts c w s s' ts'

@@ -47,7 +47,7 @@ optional_found {V} {U} {W} {X} {rest = rest} among y h i sample {v = v} {m = m} 
     leads_led (omega arith) (leads_part rises within (omega arith) (leads_less {less = 2 * length after} (omega (arith, shorter, longer)) leads) found clears)
 
 -- it isn't
-stop_shows : {W : Type 0} (y : ℕ → W → Sym) (cont : TokenKind → Bool) (among : TokenKind → Bool) (b : ℕ) (rest : List Token) (e : Stop) → OpensBy y among rest → Exact (one y) cont b rest (refused e) → (e ≡ stop.Syntax (length rest) → ⊥) → (e ≡ stop.Memory → ⊥) →
+pub stop_shows : {W : Type 0} (y : ℕ → W → Sym) (cont : TokenKind → Bool) (among : TokenKind → Bool) (b : ℕ) (rest : List Token) (e : Stop) → OpensBy y among rest → Exact (one y) cont b rest (refused e) → (e ≡ stop.Syntax (length rest) → ⊥) → (e ≡ stop.Memory → ⊥) →
     First among rest × (suc (stop_limit e) ≤ 2 * length rest)
 stop_shows y cont among b rest (stop.Syntax left) opens h elsewhere memory =
     let short = h.short in

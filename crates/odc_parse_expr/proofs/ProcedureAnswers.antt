@@ -19,7 +19,7 @@ use Rattle.odc_parse_expr.specs.Exact.{size, one, Comes, ComesAt, Exact, Answer,
 use Rattle.odc_parse_expr.specs.Ends.{FoundTo, ExactTo, sure}
 use Rattle.odc_parse_expr.specs.Read.{refused}
 use Rattle.odc_parse_expr.specs.Sets.{nothing_continues, is_free, takes_braces, starts_constructed}
-use Rattle.odc_parse_expr.specs.TypeViews.{proc_type, proc_literal}
+use Rattle.odc_nodes.specs.TypeViews.{proc_type, proc_literal}
 use Rattle.odc_parse_expr.proofs.Opening.{reach_opens, is_brace, First}
 use Rattle.odc_parse_expr.proofs.Reaching.{along, behind_token, behind_part, behind_not_next}
 use Rattle.odc_parse_expr.proofs.Leading.{one_deeper, Pending, Led, without, first_is}

@@ -13,7 +13,7 @@ use Rattle.odc_syntax.specs.Derives.{Reach, here, write}
 use Rattle.odc_parse_expr.specs.declared.stop.Stop.{Stop}
 use Rattle.odc_parse_expr.specs.declared.stop.Stop.TheVariants as stop
 use Rattle.odc_parse_expr.specs.Exact.{size, Clear, Part, one, then_, token, Exact, Found, Broken}
-use Rattle.odc_parse_expr.specs.Loops.{Steps, steps_line}
+use Rattle.odc_parse_expr.specs.Loops.{Steps, steps_line, after_line}
 use Rattle.odc_parse_expr.specs.Read.{refused, NotExpected}
 use Rattle.odc_parse_expr.specs.Sets.{starts_expression, continues}
 use Rattle.odc_parse_expr.proofs.Opening.{reach_opens}
@@ -25,10 +25,7 @@ use Rattle.odc_parse_expr.proofs.Deciding.{led_here}
 use Rattle.odc_parse_expr.proofs.Optional.{OpensBy, Turns, Into, optional_found, optional_refused}
 use Rattle.odc_parse_expr.proofs.Samples as sample
 
--- behind the condition, and behind its `;`
-abbrev pub after_line : Part (MaybeStmt × Stmts)
-after_line c u = g.maybe_simple c u.0 ∷ g.body c u.1 ∷ []
-
+-- behind the condition
 abbrev pub semicolon_line : Part (Token × (MaybeStmt × Stmts))
 semicolon_line = then_ (token kind.Semicolon) after_line
 

@@ -18,7 +18,7 @@ use Rattle.odc_syntax.specs.Derives.{Reach, here, read, write, StartsWithout}
 use Rattle.odc_parse_expr.specs.Exact.{size, Part, one, then_, done, token, behind, Found}
 use Rattle.odc_parse_expr.specs.Sets.{is_parameter, starts_constructed, starts_type, starts_named, continues_argument, nothing_continues}
 use Rattle.odc_parse_expr.specs.TypeParts.{field_item, enumerator_item, fields_line, types_line, enumerators_line, params_line, named_params, bare_params, named_line, bare_line}
-use Rattle.odc_parse_expr.specs.TypeViews.{enumerator, enumerators, param, params}
+use Rattle.odc_nodes.specs.TypeViews.{enumerator, enumerators, param, params}
 use Rattle.odc_parse_expr.proofs.Opening.{OpensAll, reach_opens}
 use Rattle.odc_parse_expr.proofs.Reaching.{behind_token, behind_part}
 use Rattle.odc_parse_expr.proofs.Leading.{same_depth, Pending, Led, led_done, first_is, without}

@@ -105,10 +105,10 @@ module _ (m : Mode) (b : ℕ) (ts : List Token) where
       by_level (level_of op) v n rest op t us (one_level rest op t us is e) found over (record { is = is; op_is = e; level_is = refl })
 
 -- a name, and what follows it
-name_postfix : (m : Mode) (t : Token) (us : List Token) → t.kind ≡ kind.Name → PostfixAt m 1 (t ∷ us) (expr t.at t.at (tree.name t)) 1 us
+pub name_postfix : (m : Mode) (t : Token) (us : List Token) → t.kind ≡ kind.Name → PostfixAt m 1 (t ∷ us) (expr t.at t.at (tree.name t)) 1 us
 name_postfix m t us e = suffixes_first m 1 (t ∷ us) (expr t.at t.at (tree.name t)) 1 us (name_found m 0 t us e)
 
-as_unary : (m : Mode) (t : Token) (us : List Token) (r : Answer Expr) → t.kind ≡ kind.Name → Exact (one (g.postfix m)) (starts_suffix m) 1 (t ∷ us) r → Exact (one (g.unary m)) (starts_suffix m) 1 (t ∷ us) r
+pub as_unary : (m : Mode) (t : Token) (us : List Token) (r : Answer Expr) → t.kind ≡ kind.Name → Exact (one (g.postfix m)) (starts_suffix m) 1 (t ∷ us) r → Exact (one (g.unary m)) (starts_suffix m) 1 (t ∷ us) r
 as_unary m t us r e h = operand_same m 1 (t ∷ us) t us r refl (ap unary_form e) h
 
 -- what may go on with any expression doesn't follow
@@ -124,7 +124,7 @@ or_false_right : (a b : Bool) → (a || b) ≡ false → b ≡ false
 or_false_right true b e = cc
 or_false_right false b e = e
 
-ends_no_suffix : (m : Mode) (us : List Token) → Ends m us → First (starts_suffix m) us → ⊥
+pub ends_no_suffix : (m : Mode) (us : List Token) → Ends m us → First (starts_suffix m) us → ⊥
 ends_no_suffix m [] e f = f
 ends_no_suffix m (t ∷ us) e f = let no = or_false_left (starts_suffix m t.kind) _ e in let bad : true ≡ false = sym f ∙ no in cc
 
@@ -132,7 +132,7 @@ any_rank : (o : Option BinaryOp) (op : BinaryOp) → o ≡ Some op → has_rank_
 any_rank (Some op') op e = grind arith
 any_rank None op e = cc
 
-ends_no_operator : (m : Mode) (us : List Token) → Ends m us → NoOperators us
+pub ends_no_operator : (m : Mode) (us : List Token) → Ends m us → NoOperators us
 ends_no_operator m [] e l = tt
 ends_no_operator m (t ∷ us) e l = λ op f k. let no = or_false_right (starts_suffix m t.kind) _ e in let on = any_rank (operator_of t.kind) op f in let bad : true ≡ false = sym on ∙ no in cc
 

@@ -12,8 +12,6 @@ pub mod Parts
 pub mod Lists
 -- what a type is, by its first token
 pub mod TypeForms
--- the clean forms of the parts of types
-pub mod TypeViews
 -- parts of types that functions read of their own
 pub mod TypeParts
 -- whether parameters have names
@@ -32,6 +30,8 @@ pub mod StatementSets
 pub mod DeclarationParts
 -- names at the start of a statement
 pub mod Runs
+-- how the first parts of a header were read
+pub mod Headers
 -- what a statement is, by its first token
 pub mod StatementForms
 -- parts of blocks and bodies that functions read of their own
@@ -42,8 +42,6 @@ pub mod Clauses
 pub mod Loops
 -- which kinds of tokens go on with values of cases and with cases
 pub mod SwitchSets
--- the clean forms of the values and cases of switches
-pub mod Switches
 -- what may stand behind `switch`
 pub mod SwitchParts
 -- the clean forms of what the functions on statements give
@@ -52,3 +50,7 @@ pub mod Statements
 pub mod Law
 -- which fault is answered
 pub mod Blame
+-- names where too few levels are left
+pub mod RunBounds
+-- what stands first behind `for`
+pub mod LoopStarts

@@ -21,6 +21,10 @@ body_alone c u = g.body c u.1.1.1 ∷ []
 abbrev pub steps_line : Part Steps
 steps_line c u = g.maybe_expr mode.Header c u.0 ∷ tok kind.Semicolon u.1.0 ∷ g.maybe_simple c u.1.1.0 ∷ g.body c u.1.1.1 ∷ []
 
+-- behind the condition and its `;`
+abbrev pub after_line : Part (MaybeStmt × Stmts)
+after_line c u = g.maybe_simple c u.0 ∷ g.body c u.1 ∷ []
+
 pub data Looped : Type 0 where
   ever : (ss : Stmts) → Looped
   clause : (k : Clause) (u : Steps) → Looped

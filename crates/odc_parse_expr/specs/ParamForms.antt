@@ -1,11 +1,13 @@
 -- Whether parameters have names: all have, or none has, and the names in front tell by what stands behind
 -- them.
-use Rattle.std.specs.Prelude.{◌≡◌, List, ◌∷◌}
+use Rattle.std.specs.Prelude.{◌≡◌, ℕ, ◌-◌, ◌<◌, ◌≤◌, List, ◌∷◌}
 use Rattle.odc_syntax.specs.declared.token.Token.{Token}
 use Rattle.odc_syntax.specs.declared.token.TokenKind.TheVariants.{Name, Comma, Colon, Dollar}
 use Rattle.odc_syntax.specs.declared.grammar.Use.{Use}
 use Rattle.odc_syntax.specs.declared.grammar.Use.TheVariants.{Parameter}
 use Rattle.odc_syntax.specs.Derives.{StartsWithout}
+use Rattle.odc_parse_expr.specs.declared.stop.Stop.{Stop}
+use Rattle.odc_parse_expr.specs.declared.stop.Stop.TheVariants as stop
 
 -- `$` may stand in front of names, and these tokens behind it
 pub data Front : Use → List Token → List Token → Type 0 where
@@ -26,3 +28,10 @@ pub data Blocked : List Token → List Token → Type 0 where
 pub record Named (ts : List Token) : Type 0 where
   pub after : List Token
   pub leads : Leads ts after
+
+-- why parameters with names in front are not read where no type may stand, if this is why they are not read
+-- as types at a bound of one; behind the names so many tokens are left
+abbrev pub Crossed : ℕ → Stop → Stop → Type 0
+Crossed at (stop.Syntax left) e = (left < at → e ≡ stop.Deep (at - 1)) × (at ≤ left → e ≡ stop.Syntax left)
+Crossed at (stop.Deep left) e = e ≡ stop.Deep (at - 1)
+Crossed at stop.Memory e = e ≡ stop.Memory

@@ -44,7 +44,7 @@ pub record Labels (ts : List Token) (t : Token) (rest : List Token) : Type 0 whe
 
 -- none does
 abbrev pub NotLabelled : List Token → Type 0
-NotLabelled ts = (t k f : Token) (us : List Token) → ts ≡ t ∷ k ∷ f ∷ us → k.kind ≡ kind.Colon → is_labelled f ≡ true → ⊥
+NotLabelled ts = (t k f : Token) (us : List Token) → ts ≡ t ∷ k ∷ f ∷ us → t.kind ≡ kind.Name → k.kind ≡ kind.Colon → is_labelled f ≡ true → ⊥
 
 -- semicolons stand before the rest
 pub data Skips : List Token → List Token → Type 0 where

@@ -8,6 +8,7 @@ use Rattle.odc_syntax.specs.declared.tree.Expr.{Expr}
 use Rattle.odc_syntax.specs.declared.tree.Stmt.{Stmt}
 use Rattle.odc_syntax.specs.Tree as tree
 use Rattle.odc_syntax.specs.View.{expr, exprs, stmts}
+use Rattle.odc_nodes.specs.StmtViews.{placed}
 use Rattle.odc_parse_expr.specs.Exact.{Found, one}
 use Rattle.odc_parse_expr.specs.StatementSets.{continues_statement}
 
@@ -25,11 +26,6 @@ BeginsWith e (x ∷ xs) = expr x ≡ e
 -- a block, a loop or a switch, and its place
 abbrev pub labelled_part : ℕ → Place × g.Labelled → g.Sym
 labelled_part c u = g.labelled_ c u.0 u.1
-
--- the place of a statement is that of its label
-abbrev pub placed : Option Token → Place → Place
-placed None at = at
-placed (Some t) at = t.at
 
 abbrev pub labelled_node : Option Token → Place × g.Labelled → tree.Stmt
 labelled_node l v = tree.stmt (placed l v.0) (g.labelled l v.1)

@@ -1,11 +1,13 @@
 -- Which kinds of tokens go on with values of cases and with cases.
-use Rattle.std.specs.Prelude.{Bool, true, false, ◌||◌}
+use Rattle.std.specs.Prelude.{◌≡◌, Bool, true, false, ◌||◌, List, [], ◌∷◌}
+use Rattle.odc_syntax.specs.declared.token.Token.{Token}
 use Rattle.odc_syntax.specs.declared.token.TokenKind.{TokenKind}
-use Rattle.odc_syntax.specs.declared.token.TokenKind.TheVariants.{CloseBrace, Comma, DotDotEqual, DotDotLess}
+use Rattle.odc_syntax.specs.declared.token.TokenKind.TheVariants.{CloseBrace, Comma, DotDotEqual, DotDotLess, OpenBrace}
 use Rattle.odc_syntax.specs.declared.grammar.Mode.{Mode}
 use Rattle.odc_syntax.specs.declared.grammar.Mode.TheVariants.{Free}
 use Rattle.odc_syntax.specs.declared.grammar.Level.TheVariants as level
 use Rattle.odc_parse_expr.specs.Sets.{starts_expression, continues}
+use Rattle.odc_parse_expr.specs.StatementSets.{continues_head}
 
 -- what may go on with a value or the values from it on
 abbrev pub continues_span : Mode → TokenKind → Bool
@@ -26,3 +28,13 @@ begins_items k = starts_expression Free k || continues_items k
 abbrev pub continues_cases : TokenKind → Bool
 continues_cases CloseBrace = false
 continues_cases k = true
+
+-- what stands before cases ends before an opening brace
+abbrev pub before_cases : TokenKind → Bool
+before_cases OpenBrace = false
+before_cases k = true
+
+-- nothing that goes on with the start of a header stands first
+abbrev pub EndsHead : List Token → Type 0
+EndsHead [] = Unit {0}
+EndsHead (t ∷ ts) = continues_head t.kind ≡ false

@@ -1,5 +1,5 @@
 -- Parts of types that functions read of their own.
-use Rattle.std.specs.Prelude.{◌≡◌, ℕ, Bool, true, false, List, [], ◌∷◌, Option, Some, None, Result, Ok, Err, Vec}
+use Rattle.std.specs.Prelude.{◌≡◌, ℕ, Bool, true, false, List, [], ◌∷◌, Option, Some, None, Result, Ok, Err, Vec, Box}
 use Rattle.odc_text.specs.declared.place.Place.{Place}
 use Rattle.odc_syntax.specs.declared.token.Token.{Token}
 use Rattle.odc_syntax.specs.declared.token.TokenKind.{TokenKind}
@@ -19,6 +19,9 @@ use Rattle.odc_parse_expr.specs.declared.stop.Stop.{Stop}
 use Rattle.std.specs.declared.alloc.Global.{Global}
 use Rattle.std.specs.Borrow.{Bor}
 use Rattle.odc_syntax.specs.declared.tree.Field.{Field}
+use Rattle.odc_syntax.specs.declared.tree.Expr.{Expr}
+use Rattle.odc_syntax.specs.declared.tree.«Type».{«Type»}
+use Rattle.odc_nodes.specs.Given.{given_expr}
 use Rattle.odc_syntax.specs.View.{type}
 
 -- lists up to their closing tokens
@@ -138,3 +141,7 @@ base_line u = then_ (g.maybe_type u) (then_ (token kind.OpenBrace) done)
 -- a type, and what the names before it are given by default
 abbrev pub typed_line : Use → Part (Type_ × tree.MaybeExpr)
 typed_line u c v = g.type_ u c v.0 ∷ g.given c v.1 ∷ []
+
+abbrev pub typed_by : Result («Type» × Option (Box Expr Global) × ℕ × Bor (List Token)) Stop → Answer (Type_ × tree.MaybeExpr)
+typed_by (Ok r) = Yes (type r.0, given_expr r.1) r.2 r.3.now
+typed_by (Err e) = refused e

@@ -1,9 +1,12 @@
 //! Where types that are operands end.
 
-ghost use Rattle.odc_parse_expr.specs.Ends.{Over};
+ghost use Rattle.std.specs.Prelude.{◌≡◌};
+ghost use Rattle.odc_syntax.specs.Grammar.{at_end, inside};
+ghost use Rattle.odc_parse_expr.specs.Ends.{Over, ends_operand};
 
 use crate::stop::Stop;
 use crate::tokens::strip;
+use odc_syntax::grammar::Use;
 use odc_syntax::token::{Token, TokenKind};
 
 /// Whether what was read ends where it was left.
@@ -27,5 +30,36 @@ pub fn over(end: End, behind: &[Token]) -> Stop
             Some((_open, rest)) => Stop::Deep(rest.len()),
             None => Stop::Syntax(behind.len()),
         },
+    }
+}
+
+/// Where a type stands that ends one that stands so.
+pub fn at_end(used: Use) -> Use
+    ensures { result ≡ at_end used }
+{
+    match used {
+        Use::Plain => Use::Plain,
+        Use::Parameter => Use::Parameter,
+        Use::Operand | Use::OperandEnd => Use::OperandEnd,
+    }
+}
+
+/// Where a type stands that is in brackets of one that stands so.
+pub fn inside(used: Use) -> Use
+    ensures { result ≡ inside used }
+{
+    match used {
+        Use::Plain | Use::Operand | Use::OperandEnd => Use::Plain,
+        Use::Parameter => Use::Parameter,
+    }
+}
+
+/// Whether the type is an operand, or its end.
+pub fn ends_operand(used: Use) -> bool
+    ensures { result ≡ ends_operand used }
+{
+    match used {
+        Use::Plain | Use::Parameter => false,
+        Use::Operand | Use::OperandEnd => true,
     }
 }

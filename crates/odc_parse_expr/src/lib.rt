@@ -4,9 +4,9 @@
 // closing token (`proofs/ListLemmas.antt`); the files named `Answers` have a lemma for each way that the
 // reading of an operand, of what stands behind it, of arguments, of a type, of a signature, of a declaration
 // and of a simple statement may end. The functions here say what tokens begin with, which operators they
-// are, how lists go on, where the first refused form begins, and which fault is told. What the public calls
-// of the parser will answer stands in `specs/Law.antt`. It assumes nothing of the tokens. No function reads
-// an expression yet.
+// are, how lists and names go on, where the first refused form begins, and which fault is told. What the
+// public calls of the parser will answer stands in `specs/Law.antt`. It assumes nothing of the tokens. No
+// function reads an expression yet.
 #![tactic(auto)]
 
 pub mod blame;
@@ -14,6 +14,7 @@ pub mod end;
 pub mod error;
 pub mod laws;
 pub mod lists;
+pub mod name_lists;
 pub mod operand;
 pub mod operators;
 pub mod refused;

@@ -4,7 +4,7 @@ ghost use Rattle.std.specs.Prelude.{◌≡◌, ◌∷◌, true, Some, IfSome, If
 ghost use Rattle.odc_syntax.specs.Grammar.{later};
 ghost use Rattle.odc_syntax.specs.declared.grammar.Level.TheVariants as level;
 ghost use Rattle.odc_syntax.specs.Operators.{prefix_of, operator_of, level_of};
-ghost use Rattle.odc_parse_expr.specs.Sets.{continues};
+ghost use Rattle.odc_parse_expr.specs.Sets.{continues, takes_braces};
 ghost use Rattle.odc_parse_expr.specs.Read.{NoOperator, NothingGoesOn};
 
 use crate::suffix::starts_suffix;
@@ -20,6 +20,16 @@ pub fn later(mode: Mode) -> Mode
     match mode {
         Mode::Free | Mode::Start => Mode::Free,
         Mode::Header => Mode::Header,
+    }
+}
+
+/// Whether braces may stand behind an operand.
+pub fn takes_braces(mode: Mode) -> bool
+    ensures { result ≡ takes_braces mode }
+{
+    match mode {
+        Mode::Free | Mode::Start => true,
+        Mode::Header => false,
     }
 }
 
@@ -99,7 +109,7 @@ fn same_level(a: Level, b: Level) -> bool
 }
 
 /// Whether any expression that stands so may go on with a token of this kind.
-fn goes_on(mode: Mode, kind: TokenKind) -> bool
+pub fn goes_on(mode: Mode, kind: TokenKind) -> bool
     ensures { result ≡ continues level.Or mode kind }
 {
     starts_suffix(mode, kind) || operator_of(kind).is_some()

@@ -1,9 +1,12 @@
 //! Types with square brackets.
 
-ghost use Rattle.std.specs.Prelude.{◌≡◌};
+ghost use Rattle.std.specs.Prelude.{◌≡◌, ◌∷◌, IfSome, IfNone};
+ghost use Rattle.odc_syntax.specs.declared.grammar.Use.TheVariants.{Parameter};
+ghost use Rattle.odc_syntax.specs.declared.token.TokenKind.TheVariants as kind;
+ghost use Rattle.odc_syntax.specs.Derives.{StartsWithout};
 ghost use Rattle.odc_parse_expr.specs.TypeParts.{counts};
 
-use crate::tokens::first;
+use crate::tokens::{first, strip};
 use odc_syntax::grammar::Use;
 use odc_syntax::token::{Token, TokenKind};
 
@@ -30,5 +33,18 @@ pub fn counts(used: Use, tokens: &[Token]) -> bool
             None => false,
         },
         Use::Plain | Use::Parameter | Use::OperandEnd => false,
+    }
+}
+
+/// `$` in front, where it may stand, and the tokens behind it.
+pub fn strip_dollar(used: Use, tokens: &[Token]) -> Option<(Token, &[Token])>
+    ensures used { IfSome result (λ r. used ≡ Parameter) }
+    ensures is { IfSome result (λ r. tokens.now ≡ r.0 ∷ r.1.now) }
+    ensures kind { IfSome result (λ r. r.0.kind ≡ kind.Dollar) }
+    ensures none { IfNone result (used ≡ Parameter → StartsWithout kind.Dollar tokens.now) }
+{
+    match used {
+        Use::Parameter => strip(tokens, TokenKind::Dollar),
+        Use::Plain | Use::Operand | Use::OperandEnd => None,
     }
 }

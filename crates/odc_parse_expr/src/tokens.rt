@@ -1,6 +1,6 @@
 //! What tokens begin with.
 
-ghost use Rattle.std.specs.Prelude.{◌≡◌, [], ◌∷◌, ◌↔◌, IsTrue, IfSome, IfNone, IfOk, IfErr, true};
+ghost use Rattle.std.specs.Prelude.{◌≡◌, ◌≤◌, [], ◌∷◌, ◌↔◌, IsTrue, IfSome, IfNone, IfOk, IfErr, true};
 ghost use Rattle.odc_syntax.specs.Derives.{StartsWithout};
 ghost use Rattle.odc_parse_expr.specs.Read.{NotExpected};
 
@@ -41,6 +41,13 @@ pub fn strip(tokens: &[Token], kind: TokenKind) -> Option<(Token, &[Token])>
         }
         [] => None,
     }
+}
+
+/// Whether a part of this depth is no deeper than it may be.
+pub fn within(height: u16, depth: u8) -> bool
+    ensures { IsTrue result ↔ (height ≤ depth) }
+{
+    height <= u16::from(depth)
 }
 
 /// A first token of this kind, which must stand here; `within` tells whether anything may follow what was
