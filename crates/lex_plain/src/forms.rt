@@ -462,15 +462,23 @@ fn is_escape(w: &[u8]) -> bool {
 
 /// The digits are hexadecimal, and their number a character's code.
 fn is_scalar(digits: &[u8]) -> bool {
+    match code_of(digits) {
+        Some(code) => code < 0xD800 || (0xE000 <= code && code < 0x11_0000),
+        None => false,
+    }
+}
+
+/// The number that hexadecimal digits write.
+pub fn code_of(digits: &[u8]) -> Option<u64> {
     let mut code = 0u64;
     for b in digits {
         let value = match *b {
             b'0'..=b'9' => *b - b'0',
             b'a'..=b'f' => *b - b'a' + 10,
             b'A'..=b'F' => *b - b'A' + 10,
-            _ => return false,
+            _ => return None,
         };
         code = code.saturating_mul(16).saturating_add(value as u64);
     }
-    code < 0xD800 || (0xE000 <= code && code < 0x11_0000)
+    Some(code)
 }

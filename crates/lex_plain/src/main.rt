@@ -23,7 +23,7 @@ const PIECES: [&str; 26] = [
 ];
 
 /// Longer texts.
-const TEXTS: [&str; 16] = [
+const TEXTS: [&str; 18] = [
     "package main\ns :: \"ab",
     "/* a /* b */ c */ fmt.println(0xf_f, 'a', `x\\n`)",
     "if a {\n\tb += 1\n} // c\nelse {\n}\n",
@@ -40,6 +40,8 @@ const TEXTS: [&str; 16] = [
     "s := `a\nb`\r\nt",
     "for i in 0..<n do #partial switch matrix {}",
     "12abc",
+    "`odin` \"odin\" \"\\x6fdin\" \"\\u006fdi\\x6E\" \"o\\U00000064in\" `\\x6fdin` \"\\\\odin\" \"odin\\x00\" \"\\u016fdin\" \"\"",
+    "\"contextless\" `contextless` \"c\\u006fntextles\\x73\" \"contextless\\n\" \"contextles\"",
 ];
 
 fn same_place(a: Place, b: Place) -> bool {

@@ -1,6 +1,6 @@
 //! The tokens of a text by trying everything.
 
-use crate::forms::{Form, form_of};
+use crate::forms::{Form, code_of, form_of};
 use odc_syntax::token::{Token, TokenKind, Tokens, Word};
 use odc_text::place::{FileId, Place};
 use std::alloc::{AllocError, Global};
@@ -84,9 +84,48 @@ fn word_of(kind: TokenKind, bytes: &[u8]) -> Word {
         (TokenKind::Directive, b"#partial") => Word::Partial,
         (TokenKind::Directive, b"#type") => Word::Type,
         (TokenKind::Directive, b"#caller_location") => Word::CallerLocation,
-        (TokenKind::Text, b"\"odin\"" | b"`odin`") => Word::Odin,
-        (TokenKind::Text, b"\"contextless\"" | b"`contextless`") => Word::Contextless,
+        (TokenKind::Text, _) if has_letters(bytes, b"odin") => Word::Odin,
+        (TokenKind::Text, _) if has_letters(bytes, b"contextless") => Word::Contextless,
         _ => Word::Plain,
+    }
+}
+
+/// The string has these letters as its value.
+fn has_letters(bytes: &[u8], letters: &[u8]) -> bool {
+    match bytes {
+        [b'`', inside @ .., b'`'] => inside == letters,
+        [b'"', inside @ .., b'"'] => spells(inside, letters),
+        _ => false,
+    }
+}
+
+/// Each letter stands as itself or as the digits of its code, and nothing else stands there.
+fn spells(inside: &[u8], letters: &[u8]) -> bool {
+    let mut rest = inside;
+    for letter in letters {
+        match behind_letter(rest, *letter) {
+            Some(behind) => rest = behind,
+            None => return false,
+        }
+    }
+    rest.is_empty()
+}
+
+fn behind_letter<'a>(text: &'a [u8], letter: u8) -> Option<&'a [u8]> {
+    match text {
+        [b'\\', b'x', ..] => behind_code(text, 4, letter),
+        [b'\\', b'u', ..] => behind_code(text, 6, letter),
+        [b'\\', b'U', ..] => behind_code(text, 10, letter),
+        [first, rest @ ..] if *first == letter => Some(rest),
+        _ => None,
+    }
+}
+
+fn behind_code<'a>(text: &'a [u8], len: usize, letter: u8) -> Option<&'a [u8]> {
+    if code_of(text.get(2..len)?)? == letter as u64 {
+        text.get(len..)
+    } else {
+        None
     }
 }
 

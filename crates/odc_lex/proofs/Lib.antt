@@ -1,5 +1,6 @@
 pub mod CharacterLemmas
 pub mod EscapeLemmas
+pub mod ValueLemmas
 pub mod UnitLemmas
 pub mod StretchLemmas
 pub mod CommentLemmas

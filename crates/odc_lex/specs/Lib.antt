@@ -7,3 +7,4 @@ pub mod Piece
 pub mod State
 pub mod Table
 pub mod Unit
+pub mod Value

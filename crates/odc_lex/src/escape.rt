@@ -48,7 +48,7 @@ fn is_short_escape(b: u8) -> bool
 }
 
 /// How many hexadecimal digits follow the letter behind a backslash.
-fn hex_digits(letter: u8) -> usize
+pub fn hex_digits(letter: u8) -> usize
     ensures { result ≡ hex_digits letter }
 {
     match letter {

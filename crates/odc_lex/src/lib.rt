@@ -16,6 +16,7 @@ mod state;
 mod stretch;
 mod table;
 mod unit;
+mod value;
 mod wording;
 
 pub use error::LexError;

@@ -2,7 +2,7 @@
 
 use crate::error::LexError;
 use crate::lexer::lex;
-use odc_syntax::token::{TokenKind, Tokens};
+use odc_syntax::token::{TokenKind, Tokens, Word};
 use odc_text::place::{FileId, Place};
 use std::alloc::{AllocError, Global};
 use std::fmt::Write;
@@ -261,5 +261,52 @@ fn bytes_that_are_no_text(rt: HostRuntime) -> Result<(), Fail> {
     assert_eq!(rt; shown(rt.alloc(), b"a \"\xC3\"")?.as_str(), "X01@1:3");
     assert_eq!(rt; shown(rt.alloc(), b"a /* \x80 */")?.as_str(), "X01@1:3");
     assert_eq!(rt; shown(rt.alloc(), b"a\xC3")?.as_str(), "X01@1:2");
+    Ok(())
+}
+
+/// The word of the first token of a short text.
+fn first_word(alloc: Global, text: &[u8]) -> Result<&'static str, Fail> {
+    if text.len() > 1000 {
+        return Ok("long");
+    }
+    match lex(alloc, FILE, text) {
+        Ok(tokens) => match tokens.list.first() {
+            Some(token) => Ok(match token.word {
+                Word::Odin => "odin",
+                Word::Contextless => "contextless",
+                _ => "none",
+            }),
+            None => Ok("no token"),
+        },
+        Err(_) => Ok("error"),
+    }
+}
+
+#[test]
+fn strings_are_told_by_value(rt: HostRuntime) -> Result<(), Fail> {
+    let cases = [
+        ("\"odin\"", "odin"),
+        ("`odin`", "odin"),
+        ("\"\\x6fdin\"", "odin"),
+        ("\"\\u006fdi\\x6E\"", "odin"),
+        ("\"o\\U00000064in\"", "odin"),
+        ("\"\\x6f\\x64\\x69\\x6e\"", "odin"),
+        ("`\\x6fdin`", "none"),
+        ("\"\\\\x6fdin\"", "none"),
+        ("\"odin\\x00\"", "none"),
+        ("\"odi\"", "none"),
+        ("\"\\u016fdin\"", "none"),
+        ("\"Odin\"", "none"),
+        ("\"\"", "none"),
+        ("``", "none"),
+        ("\"contextless\"", "contextless"),
+        ("`contextless`", "contextless"),
+        ("\"c\\u006fntextles\\x73\"", "contextless"),
+        ("\"contextless\\n\"", "none"),
+    ];
+    for (text, want) in cases {
+        let got = first_word(rt.alloc(), text.as_bytes())?;
+        assert_eq!(rt; got, want, "{text}");
+    }
     Ok(())
 }

@@ -3,6 +3,7 @@
 ghost use Rattle.std.specs.Prelude.{◌≡◌};
 ghost use Rattle.odc_syntax.specs.Wording.{name_word, directive_word, text_word, word_of};
 
+use crate::value::has_value;
 use odc_syntax::token::{TokenKind, Word};
 
 /// What a token of this kind says.
@@ -46,13 +47,9 @@ fn directive_word(bytes: &[u8]) -> Word
 fn text_word(bytes: &[u8]) -> Word
     ensures { result ≡ text_word bytes.now }
 {
-    if bytes == b"\"odin\"".as_slice() {
+    if has_value(bytes, b"odin".as_slice()) {
         Word::Odin
-    } else if bytes == b"`odin`".as_slice() {
-        Word::Odin
-    } else if bytes == b"\"contextless\"".as_slice() {
-        Word::Contextless
-    } else if bytes == b"`contextless`".as_slice() {
+    } else if has_value(bytes, b"contextless".as_slice()) {
         Word::Contextless
     } else {
         Word::Plain

@@ -14,7 +14,7 @@ use Rattle.odc_syntax.specs.declared.tree.StmtKind.{StmtKind}
 use Rattle.odc_syntax.specs.declared.tree.StmtKind.TheVariants as s
 use Rattle.odc_syntax.specs.declared.tree.DeclKind.TheBlock as b
 use Rattle.odc_syntax.specs.Tree as tree
-use Rattle.odc_syntax.specs.View.{expr, stmt, stmts, stmt_kind, stmt_row}
+use Rattle.odc_syntax.specs.View.{expr, stmt, stmts, stmt_kind}
 use Rattle.odc_nodes.specs.Given.{given_expr}
 use Rattle.odc_nodes.specs.LoopViews.{given_stmt}
 use Rattle.odc_nodes.specs.StmtViews.{header_of}

@@ -42,6 +42,12 @@ at_end Parameter = Parameter
 at_end Operand = OperandEnd
 at_end OperandEnd = OperandEnd
 
+-- the type that is an operand: a literal may follow it where braces may stand
+abbrev pub operand_use : Mode → Use
+operand_use Free = Operand
+operand_use Header = OperandEnd
+operand_use Start = Operand
+
 -- an operator with its right operand
 pub record Operation : Type 0 where
   pub at : Place
@@ -243,7 +249,7 @@ pub data Rule : Sym → List Sym → Type 0 where
   operand_group : {m : Mode} {b : ℕ} {t c : Token} {e : Expr} →
       Rule (operand m (suc b) (opened t.at e)) (tok kind.OpenParen t ∷ expression Free b e ∷ tok kind.CloseParen c ∷ [])
   operand_type : {m : Mode} {b : ℕ} {at : Place} {k : tree.TypeKind} →
-      Rule (operand m (suc b) (expr at at (tree.type_tree (type at k)))) (constructed Operand b (type at k) ∷ [])
+      Rule (operand m (suc b) (expr at at (tree.type_tree (type at k)))) (constructed (operand_use m) b (type at k) ∷ [])
   operand_proc_type : {m : Mode} {b : ℕ} {at : Place} {n : Option Token} {ps : Params} {r : Results} →
       Rule (operand m (suc (suc b)) (expr at at (tree.type_tree (type at (tree.proc (signature at n ps r)))))) (sig Operand b (signature at n ps r) ∷ not_next kind.OpenBrace ∷ [])
   operand_proc : {m : Mode} {b : ℕ} {at : Place} {n : Option Token} {ps : Params} {r : Results} {ss : Stmts} →
@@ -334,7 +340,7 @@ pub data Rule : Sym → List Sym → Type 0 where
   results_one : {u : Use} {b : ℕ} {t : Token} {ty : Type_} →
       Rule (results u b (tree.one_result ty)) (tok kind.Arrow t ∷ not_next kind.OpenParen ∷ type_ (at_end u) b ty ∷ [])
   results_list : {u : Use} {b : ℕ} {t o c : Token} {ps : Params} →
-      Rule (results u b (tree.list_results ps)) (tok kind.Arrow t ∷ tok kind.OpenParen o ∷ params (inside u) b ps ∷ tok kind.CloseParen c ∷ [])
+      Rule (results u b (tree.list_results ps)) (tok kind.Arrow t ∷ tok kind.OpenParen o ∷ not_next kind.CloseParen ∷ params (inside u) b ps ∷ tok kind.CloseParen c ∷ [])
   -- all parameters have names, or none has
   params_none : {u : Use} {b : ℕ} → Rule (params u b tree.no_params) []
   params_named : {u : Use} {b : ℕ} {p : Param} {ps : Params} → Rule (params u b (tree.more_params p ps)) (named_param u b p ∷ more_named u b ps ∷ [])

@@ -1,5 +1,6 @@
 -- What the bytes of a token say, where a rule of the grammar asks for more than the kind.
 use Rattle.std.specs.Prelude.{ℕ, List, codes, bytes_eq, if◌then◌else◌}
+use Rattle.odc_syntax.specs.Value.{text_value}
 use Rattle.odc_syntax.specs.declared.token.TokenKind.{TokenKind}
 use Rattle.odc_syntax.specs.declared.token.TokenKind.TheVariants.{Name, Text, Directive}
 use Rattle.odc_syntax.specs.declared.token.Word.{Word}
@@ -17,14 +18,15 @@ directive_word w =
     else (if bytes_eq w (codes "#caller_location") then CallerLocation
     else Plain)))
 
--- a string in double quotes, or in backquotes
+-- by the value of the string, in either kind of quotes: an escape may write a letter of it
+abbrev pub value_word : List ℕ → Word
+value_word v =
+    if bytes_eq v (codes "odin") then Odin
+    else (if bytes_eq v (codes "contextless") then Contextless
+    else Plain)
+
 abbrev pub text_word : List ℕ → Word
-text_word w =
-    if bytes_eq w (codes "\"odin\"") then Odin
-    else (if bytes_eq w (codes "`odin`") then Odin
-    else (if bytes_eq w (codes "\"contextless\"") then Contextless
-    else (if bytes_eq w (codes "`contextless`") then Contextless
-    else Plain)))
+text_word w = value_word (text_value w)
 
 abbrev pub word_of : TokenKind → List ℕ → Word
 word_of Name w = name_word w

@@ -21,7 +21,8 @@ pub enum Use {
     Parameter,
     /// Where an expression may stand, and the type is all of the operand.
     Operand,
-    /// The same, and the type is the end of the operand.
+    /// The same, and no literal of this type follows: it is the end of the operand, or the operand stands
+    /// in a header.
     OperandEnd,
 }
 

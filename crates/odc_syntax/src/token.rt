@@ -36,9 +36,9 @@ pub enum Word {
     Type,
     /// `#caller_location`
     CallerLocation,
-    /// The string `odin`, in double quotes or in backquotes, without an escape.
+    /// A string of the value `odin`, in double quotes or in backquotes; an escape may write a letter.
     Odin,
-    /// The string `contextless`, written so.
+    /// A string of the value `contextless`.
     Contextless,
 }
 
