@@ -1,0 +1,4 @@
+pub mod StatementExits
+pub mod LoopExits
+pub mod LoopFronts
+pub mod LoopHeads

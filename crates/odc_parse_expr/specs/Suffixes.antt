@@ -1,0 +1,33 @@
+-- The clean forms of what stands behind an operand, and of arguments.
+use Rattle.std.specs.Prelude.{Option}
+use Rattle.odc_syntax.specs.declared.token.Token.{Token}
+use Rattle.odc_syntax.specs.declared.tree.Arg.{Arg}
+use Rattle.odc_syntax.specs.Tree as tree
+use Rattle.odc_syntax.specs.Grammar as g
+use Rattle.odc_syntax.specs.View.{expr, type, args}
+use Rattle.odc_nodes.specs.Given.{maybe}
+use Rattle.odc_parse_expr.specs.declared.postfix.Suffix.{Suffix}
+use Rattle.odc_parse_expr.specs.declared.postfix.Suffix.TheVariants as s
+use Rattle.odc_parse_expr.specs.declared.postfix.HighEnd.{HighEnd}
+use Rattle.odc_parse_expr.specs.declared.arguments.ArgumentList.{ArgumentList}
+
+abbrev pub suffix : Suffix → g.Suffix
+suffix (s.Select at t) = g.select at t
+suffix (s.Assert at t) = g.assert at (type t)
+suffix (s.Deref at) = g.deref at
+suffix (s.Index at i) = g.index at (expr i)
+suffix (s.Cut at low high) = g.cut at (maybe low) (maybe high)
+suffix (s.Call xs) = g.call (args xs.items)
+suffix s.OrReturn = g.or_return
+suffix (s.Literal xs) = g.literal (args xs.items)
+
+-- the end of a cut, and its bracket
+abbrev pub high_of : HighEnd → tree.MaybeExpr × (Token × Unit {0})
+high_of h = (maybe h.value, (h.close, tt))
+
+abbrev pub argument : Arg → Option Token × tree.Expr
+argument x = (x.name, expr x.value)
+
+-- arguments, and their closing token
+abbrev pub argument_list : ArgumentList → tree.Args × (Token × Unit {0})
+argument_list l = (args l.args.items, (l.close, tt))

@@ -1,0 +1,122 @@
+//! Arguments of calls and elements of literals.
+
+ghost use Rattle.std.specs.Prelude.{◌≡◌, ◌∷◌, ◌<◌, ◌≤◌, ◌+◌, length, IfOk};
+ghost use Rattle.odc_syntax.specs.declared.token.TokenKind.TheVariants as kind;
+ghost use Rattle.odc_syntax.specs.Derives.{StartsWithout};
+ghost use Rattle.odc_parse_base.specs.Exact.{Exact};
+ghost use Rattle.odc_parse_base.specs.Parts.{arguments, arg_item, ClosesArguments};
+ghost use Rattle.odc_parse_base.specs.Read.{seen};
+ghost use Rattle.odc_parse_base.specs.Sets.{continues_argument, nothing_continues};
+ghost use Rattle.odc_parse_expr.specs.Suffixes.{argument, argument_list};
+
+use crate::binary::level;
+use odc_nodes::nodes;
+use odc_parse_base::lists::after_item;
+use odc_parse_base::operators::going_on;
+use odc_parse_base::stop::Stop;
+use odc_parse_base::tokens::{strip, within};
+use odc_syntax::grammar::{Level, Mode};
+use odc_syntax::token::{Token, TokenKind};
+use odc_syntax::tree::{Arg, ExprKind};
+use std::alloc::Global;
+
+/// Arguments, with the token that closes them.
+pub struct ArgumentList {
+    pub args: Vec<Arg>,
+    pub close: Token,
+}
+
+/// Arguments between commas, up to the closing token.
+#[cycle(parser)]
+pub fn arguments<'a>(
+    alloc: Global,
+    close: TokenKind,
+    tokens: &'a [Token],
+    depth: u8,
+) -> Result<(ArgumentList, u16, &'a [Token]), Stop>
+    ensures exact { ClosesArguments close → Exact (arguments close) nothing_continues depth tokens.now (seen argument_list result) }
+    ensures shorter { IfOk result (λ r. length r.2.now < length tokens.now) }
+    ensures low { IfOk result (λ r. r.1 ≤ depth + 1) }
+{
+    let mut args = Vec::new(alloc);
+    if let Some((token, rest)) = strip(tokens, close) {
+        return Ok((ArgumentList { args, close: token }, 0, rest));
+    }
+    let mut height: u16 = 0;
+    let mut rest = tokens;
+    'items: loop {
+        let (item, n, after) = match argument(alloc, rest, depth) {
+            Ok(read) => read,
+            Err(error) => return Err(nodes::discard_list(args, error)),
+        };
+        args = nodes::push(args, item)?;
+        height = height.max(n);
+        let (end, behind) = match after_item(after, close, within(height, depth)) {
+            Ok(found) => found,
+            Err(error) => return Err(nodes::discard_list(args, error)),
+        };
+        match end {
+            Some(token) => return Ok((ArgumentList { args, close: token }, height, behind)),
+            None => rest = behind,
+        }
+    }
+}
+
+/// An argument: an expression, which may stand behind a name and `=`.
+#[cycle(parser)]
+fn argument<'a>(
+    alloc: Global,
+    tokens: &'a [Token],
+    depth: u8,
+) -> Result<(Arg, u16, &'a [Token]), Stop>
+    ensures exact { Exact arg_item continues_argument depth tokens.now (seen argument result) }
+    ensures shorter { IfOk result (λ r. length r.2.now < length tokens.now) }
+    ensures low { IfOk result (λ r. r.1 ≤ depth + 1) }
+{
+    let (name, behind) = match strip(tokens, TokenKind::Name) {
+        Some(found) => found,
+        None => {
+            return match level(alloc, Level::Or, Mode::Free, tokens, depth) {
+                Ok((value, height, after)) => Ok((Arg { name: None, value }, height, after)),
+                Err(error) => Err(error),
+            };
+        }
+    };
+    if let Some((_assign, rest)) = strip(behind, TokenKind::Assign) {
+        return match level(alloc, Level::Or, Mode::Free, rest, depth) {
+            Ok((value, height, after)) => Ok((
+                Arg {
+                    name: Some(name),
+                    value,
+                },
+                height,
+                after,
+            )),
+            Err(error) => Err(error),
+        };
+    }
+    if depth == 0 {
+        return name_alone(name, behind);
+    }
+    match level(alloc, Level::Or, Mode::Free, tokens, depth) {
+        Ok((value, height, after)) => Ok((Arg { name: None, value }, height, after)),
+        Err(error) => Err(error),
+    }
+}
+
+/// A name where no expression may stand any more: it may be the name of an argument, and as an expression
+/// it is too deep.
+fn name_alone(name: Token, behind: &[Token]) -> Result<(Arg, u16, &[Token]), Stop>
+    ensures exact { name.kind ≡ kind.Name → StartsWithout kind.Assign behind.now
+        → Exact arg_item continues_argument 0 (name ∷ behind.now) (seen argument result) }
+    ensures shorter { IfOk result (λ r. length r.2.now ≤ length behind.now) }
+    ensures low { IfOk result (λ r. r.1 ≤ 1) }
+{
+    match going_on(Mode::Free, behind) {
+        Some((_token, rest)) => Err(Stop::Deep(rest.len())),
+        None => {
+            let value = nodes::leaf(name.at, ExprKind::Name(name));
+            Ok((Arg { name: None, value }, 1, behind))
+        }
+    }
+}

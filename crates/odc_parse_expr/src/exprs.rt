@@ -1,0 +1,75 @@
+//! Expressions between commas.
+
+ghost use Rattle.std.specs.Prelude.{List, ◌<◌, ◌≤◌, ◌+◌, length, IfOk};
+ghost use Rattle.odc_syntax.specs.declared.token.Token.{Token as TokenValue};
+ghost use Rattle.odc_syntax.specs.Grammar as g;
+ghost use Rattle.odc_syntax.specs.View.{expr};
+ghost use Rattle.odc_syntax.specs.declared.grammar.Level.TheVariants as levels;
+ghost use Rattle.odc_parse_base.specs.Exact.{Exact, Found, one};
+ghost use Rattle.odc_parse_base.specs.Read.{seen};
+ghost use Rattle.odc_parse_base.specs.Sets.{continues};
+ghost use Rattle.odc_parse_base.specs.StatementSets.{continues_exprs};
+ghost use Rattle.odc_parse_base.specs.Statements.{expr_list, BeginsWith};
+
+use crate::binary::level;
+use odc_nodes::stmt_nodes;
+use odc_parse_base::operators::later;
+use odc_parse_base::stop::Stop;
+use odc_parse_base::tokens::strip;
+use odc_syntax::grammar::{Level, Mode};
+use odc_syntax::token::{Token, TokenKind};
+use odc_syntax::tree::Expr;
+use std::alloc::Global;
+
+/// Expressions between commas.
+#[cycle(parser)]
+pub fn exprs<'a>(
+    alloc: Global,
+    mode: Mode,
+    tokens: &'a [Token],
+    depth: u8,
+) -> Result<(Vec<Expr>, u16, &'a [Token]), Stop>
+    ensures exact { Exact (one (g.exprs mode)) (continues_exprs mode) depth tokens.now (seen expr_list result) }
+    ensures shorter { IfOk result (λ r. length r.2.now < length tokens.now) }
+    ensures low { IfOk result (λ r. r.1 ≤ depth + 1) }
+{
+    match level(alloc, Level::Or, mode, tokens, depth) {
+        Ok((first, height, rest)) => exprs_from(alloc, mode, first, height, rest, depth),
+        Err(error) => Err(error),
+    }
+}
+
+/// Expressions between commas, of which the first is read.
+#[cycle(parser)]
+pub fn exprs_from<'a>(
+    alloc: Global,
+    mode: Mode,
+    first: Expr,
+    height: u16,
+    tokens: &'a [Token],
+    depth: u8,
+) -> Result<(Vec<Expr>, u16, &'a [Token]), Stop>
+    ensures exact { (ts : List TokenValue) → Found (one (g.expression mode)) (continues levels.Or mode) depth ts (expr first) height tokens.now
+        → Exact (one (g.exprs mode)) (continues_exprs mode) depth ts (seen expr_list result) }
+    ensures first { IfOk result (λ r. BeginsWith (expr first) r.0.items) }
+    ensures shorter { IfOk result (λ r. length r.2.now ≤ length tokens.now) }
+    ensures low { height ≤ depth + 1 → IfOk result (λ r. r.1 ≤ depth + 1) }
+{
+    let start = stmt_nodes::only(alloc, first)?;
+    let mut list = start;
+    let mut top = height;
+    let mut rest = tokens;
+    'items: while let Some((_comma, behind)) = strip(rest, TokenKind::Comma) {
+        if top > u16::from(depth) {
+            return Err(stmt_nodes::discard_exprs(list, Stop::Deep(behind.len())));
+        }
+        let (e, n, after) = match level(alloc, Level::Or, later(mode), behind, depth) {
+            Ok(read) => read,
+            Err(error) => return Err(stmt_nodes::discard_exprs(list, error)),
+        };
+        list = stmt_nodes::push_expr(list, e)?;
+        top = top.max(n);
+        rest = after;
+    }
+    Ok((list, top, rest))
+}

@@ -1,0 +1,311 @@
+//! Parameters: all have names, or none has.
+
+ghost use Rattle.std.specs.Prelude.{◌≡◌, ◌<◌, ◌≤◌, ◌+◌, ◌∷◌, List, length, suc, IfOk};
+ghost use Rattle.odc_syntax.specs.Grammar as g;
+ghost use Rattle.odc_syntax.specs.declared.grammar.Use.TheVariants.{Parameter};
+ghost use Rattle.odc_syntax.specs.declared.token.Token.{Token as SpecToken};
+ghost use Rattle.odc_syntax.specs.declared.token.TokenKind.TheVariants as kind;
+ghost use Rattle.odc_syntax.specs.Derives.{StartsWithout};
+ghost use Rattle.odc_parse_base.specs.Ends.{closed_by};
+ghost use Rattle.odc_parse_base.specs.Exact.{Exact, one};
+ghost use Rattle.odc_parse_base.specs.ParamForms.{Front, Blocked, Crossed};
+ghost use Rattle.odc_parse_base.specs.Read.{seen};
+ghost use Rattle.odc_parse_base.specs.Sets.{continues_argument, nothing_continues};
+ghost use Rattle.odc_parse_base.specs.TypeParts.{params_line, named_line, bare_line, typed_line, typed_by};
+ghost use Rattle.odc_nodes.specs.TypeViews.{param, params};
+
+use crate::binary::level;
+use crate::fields::given;
+use crate::types::ty;
+use odc_nodes::type_nodes;
+use odc_parse_base::end::inside;
+use odc_parse_base::lists::after_item;
+use odc_parse_base::name_lists::{behind_dollar, blocked, names, strip_int};
+use odc_parse_base::shape::strip_dollar;
+use odc_parse_base::stop::Stop;
+use odc_parse_base::tokens::{strip, within};
+use odc_syntax::grammar::{Level, Mode, Use};
+use odc_syntax::token::{Token, TokenKind};
+use odc_syntax::tree::{Expr, Param, Type};
+use std::alloc::Global;
+
+/// Parameters between commas, up to the closing parenthesis.
+#[cycle(parser)]
+pub fn params<'a>(
+    alloc: Global,
+    used: Use,
+    tokens: &'a [Token],
+    depth: u8,
+) -> Result<(Vec<Param>, Token, u16, &'a [Token]), Stop>
+    ensures exact { Exact (params_line (g.inside used)) nothing_continues depth tokens.now (closed_by (λ l. params l.items) result) }
+    ensures shorter { IfOk result (λ r. length r.3.now < length tokens.now) }
+    ensures low { IfOk result (λ r. r.2 ≤ depth) }
+{
+    match blocked(behind_dollar(inside(used), tokens)) {
+        None => named_list(alloc, used, tokens, depth),
+        Some(at) => {
+            if at.len() == tokens.len() {
+                return bare_list(alloc, used, tokens, depth);
+            }
+            if depth == 0 {
+                return crossed(alloc, used, tokens, at);
+            }
+            bare_list(alloc, used, tokens, depth)
+        }
+    }
+}
+
+/// Names in front where no type may stand any more: they may be names of parameters, and as types they are
+/// too deep. Where a type may stand tells which it is.
+#[cycle(parser)]
+fn crossed<'a>(
+    alloc: Global,
+    used: Use,
+    tokens: &'a [Token],
+    at: &'a [Token],
+) -> Result<(Vec<Param>, Token, u16, &'a [Token]), Stop>
+    ensures exact { (us : List SpecToken) → Front (g.inside used) tokens.now us → Blocked us at.now → length at.now < length tokens.now → Exact (params_line (g.inside used)) nothing_continues 0 tokens.now (closed_by (λ l. params l.items) result) }
+    ensures shorter { IfOk result (λ r. length r.3.now < length tokens.now) }
+    ensures low { IfOk result (λ r. r.2 ≤ 0) }
+{
+    match bare_list(alloc, used, tokens, 1) {
+        Ok((list, _close, _height, _rest)) => Err(type_nodes::discard_params(
+            list,
+            Stop::Deep(at.len().saturating_sub(1)),
+        )),
+        Err(error) => Err(crossed_by(error, at.len())),
+    }
+}
+
+/// Why such a list is not read, if at a bound of 1 this is why it is not read without names; behind the names
+/// so many tokens are left.
+fn crossed_by(error: Stop, at: usize) -> Stop
+    ensures { Crossed at error result }
+{
+    match error {
+        Stop::Syntax(left) => {
+            if left < at {
+                Stop::Deep(at.saturating_sub(1))
+            } else {
+                Stop::Syntax(left)
+            }
+        }
+        Stop::Deep(_left) => Stop::Deep(at.saturating_sub(1)),
+        Stop::Memory => Stop::Memory,
+    }
+}
+
+/// Parameters with names between commas, up to the closing parenthesis.
+#[cycle(parser)]
+fn named_list<'a>(
+    alloc: Global,
+    used: Use,
+    tokens: &'a [Token],
+    depth: u8,
+) -> Result<(Vec<Param>, Token, u16, &'a [Token]), Stop>
+    ensures exact { StartsWithout kind.CloseParen tokens.now → Exact (named_line (g.inside used)) nothing_continues depth tokens.now (closed_by (λ l. params l.items) result) }
+    ensures shorter { IfOk result (λ r. length r.3.now < length tokens.now) }
+    ensures low { IfOk result (λ r. r.2 ≤ depth) }
+{
+    let mut list = Vec::new(alloc);
+    let mut height: u16 = 0;
+    let mut rest = tokens;
+    'items: loop {
+        let (item, n, after) = match named(alloc, used, rest, depth) {
+            Ok(read) => read,
+            Err(error) => return Err(type_nodes::discard_params(list, error)),
+        };
+        list = type_nodes::push_param(list, item)?;
+        height = height.max(n);
+        let (end, behind) = match after_item(after, TokenKind::CloseParen, within(height, depth)) {
+            Ok(found) => found,
+            Err(error) => return Err(type_nodes::discard_params(list, error)),
+        };
+        match end {
+            Some(close) => return Ok((list, close, height, behind)),
+            None => rest = behind,
+        }
+    }
+}
+
+/// Parameters without names between commas, or none, up to the closing parenthesis.
+#[cycle(parser)]
+fn bare_list<'a>(
+    alloc: Global,
+    used: Use,
+    tokens: &'a [Token],
+    depth: u8,
+) -> Result<(Vec<Param>, Token, u16, &'a [Token]), Stop>
+    ensures exact { Exact (bare_line (g.inside used)) nothing_continues depth tokens.now (closed_by (λ l. params l.items) result) }
+    ensures shorter { IfOk result (λ r. length r.3.now < length tokens.now) }
+    ensures low { IfOk result (λ r. r.2 ≤ depth) }
+{
+    let mut list = Vec::new(alloc);
+    if let Some((close, rest)) = strip(tokens, TokenKind::CloseParen) {
+        return Ok((list, close, 0, rest));
+    }
+    let mut height: u16 = 0;
+    let mut rest = tokens;
+    'items: loop {
+        let (item, n, after) = match bare(alloc, used, rest, depth) {
+            Ok(read) => read,
+            Err(error) => return Err(type_nodes::discard_params(list, error)),
+        };
+        list = type_nodes::push_param(list, item)?;
+        height = height.max(n);
+        let (end, behind) = match after_item(after, TokenKind::CloseParen, within(height, depth)) {
+            Ok(found) => found,
+            Err(error) => return Err(type_nodes::discard_params(list, error)),
+        };
+        match end {
+            Some(close) => return Ok((list, close, height, behind)),
+            None => rest = behind,
+        }
+    }
+}
+
+/// A type alone.
+#[cycle(parser)]
+fn bare<'a>(
+    alloc: Global,
+    used: Use,
+    tokens: &'a [Token],
+    depth: u8,
+) -> Result<(Param, u16, &'a [Token]), Stop>
+    ensures exact { Exact (one (g.bare_param (g.inside used))) nothing_continues depth tokens.now (seen param result) }
+    ensures shorter { IfOk result (λ r. length r.2.now < length tokens.now) }
+    ensures low { IfOk result (λ r. r.1 ≤ depth + 1) }
+{
+    match ty(alloc, used, tokens, depth) {
+        Ok((t, height, rest)) => Ok((type_nodes::bare_param(alloc, t)?, height, rest)),
+        Err(error) => Err(error),
+    }
+}
+
+/// Names with their type, and what they are given by default.
+#[cycle(parser)]
+fn named<'a>(
+    alloc: Global,
+    used: Use,
+    tokens: &'a [Token],
+    depth: u8,
+) -> Result<(Param, u16, &'a [Token]), Stop>
+    ensures exact { Exact (one (g.named_param (g.inside used))) continues_argument depth tokens.now (seen param result) }
+    ensures shorter { IfOk result (λ r. length r.2.now < length tokens.now) }
+    ensures low { IfOk result (λ r. r.1 ≤ depth + 1) }
+{
+    match strip_dollar(inside(used), tokens) {
+        Some((dollar, behind)) => parametric(alloc, dollar, behind, depth),
+        None => plain(alloc, used, tokens, depth),
+    }
+}
+
+/// Names without `$` before them, with their type, and what they are given by default.
+#[cycle(parser)]
+fn plain<'a>(
+    alloc: Global,
+    used: Use,
+    tokens: &'a [Token],
+    depth: u8,
+) -> Result<(Param, u16, &'a [Token]), Stop>
+    ensures exact { (g.inside used ≡ Parameter → StartsWithout kind.Dollar tokens.now) → Exact (one (g.named_param (g.inside used))) continues_argument depth tokens.now (seen param result) }
+    ensures shorter { IfOk result (λ r. length r.2.now < length tokens.now) }
+    ensures low { IfOk result (λ r. r.1 ≤ depth + 1) }
+{
+    let (list, _colon, after) = match names(alloc, tokens) {
+        Ok(read) => read,
+        Err(error) => return Err(error),
+    };
+    match strip(after, TokenKind::Typeid) {
+        Some((_typeid, behind)) => match given(alloc, behind, depth) {
+            Ok((default, height, rest)) => {
+                Ok((type_nodes::typeid_param(false, list, default), height, rest))
+            }
+            Err(error) => Err(error),
+        },
+        None => match strip(after, TokenKind::Assign) {
+            Some((_assign, behind)) => match level(alloc, Level::Or, Mode::Free, behind, depth) {
+                Ok((e, height, rest)) => {
+                    Ok((type_nodes::inferred_param(alloc, list, e)?, height, rest))
+                }
+                Err(error) => Err(error),
+            },
+            None => match typed(alloc, used, after, depth) {
+                Ok((t, default, height, rest)) => {
+                    Ok((
+                        type_nodes::typed_param(alloc, list, t, default)?,
+                        height,
+                        rest,
+                    ))
+                }
+                Err(error) => Err(error),
+            },
+        },
+    }
+}
+
+/// The type of names, and what they are given by default.
+#[cycle(parser)]
+fn typed<'a>(
+    alloc: Global,
+    used: Use,
+    tokens: &'a [Token],
+    depth: u8,
+) -> Result<(Type, Option<Box<Expr>>, u16, &'a [Token]), Stop>
+    ensures exact { Exact (typed_line (g.inside used)) continues_argument depth tokens.now (typed_by result) }
+    ensures shorter { IfOk result (λ r. length r.3.now < length tokens.now) }
+    ensures low { IfOk result (λ r. r.2 ≤ depth + 1) }
+{
+    let (t, n, behind) = match ty(alloc, used, tokens, depth) {
+        Ok(read) => read,
+        Err(error) => return Err(error),
+    };
+    match given(alloc, behind, depth) {
+        Ok((default, m, rest)) => Ok((t, default, n.max(m), rest)),
+        Err(error) => Err(type_nodes::discard_type(t, error)),
+    }
+}
+
+/// Names behind `$`, which stand for types, or for integers.
+#[cycle(parser)]
+fn parametric<'a>(
+    alloc: Global,
+    dollar: Token,
+    behind: &'a [Token],
+    depth: u8,
+) -> Result<(Param, u16, &'a [Token]), Stop>
+    ensures exact { dollar.kind ≡ kind.Dollar → Exact (one (g.named_param Parameter)) continues_argument depth (dollar ∷ behind.now) (seen param result) }
+    ensures shorter { IfOk result (λ r. length r.2.now < length behind.now) }
+    ensures low { IfOk result (λ r. r.1 ≤ depth + 1) }
+{
+    let (list, _colon, after) = match names(alloc, behind) {
+        Ok(read) => read,
+        Err(error) => return Err(error),
+    };
+    match strip(after, TokenKind::Typeid) {
+        Some((_typeid, rest)) => match given(alloc, rest, depth) {
+            Ok((default, height, last)) => {
+                Ok((type_nodes::typeid_param(true, list, default), height, last))
+            }
+            Err(error) => Err(error),
+        },
+        None => match strip_int(after) {
+            Some((int, rest)) => {
+                if depth == 0 {
+                    return Err(Stop::Deep(rest.len()));
+                }
+                match given(alloc, rest, depth) {
+                    Ok((default, height, last)) => {
+                        Ok((
+                            type_nodes::int_param(alloc, list, int, default)?,
+                            height.max(1),
+                            last,
+                        ))
+                    }
+                    Err(error) => Err(error),
+                }
+            }
+            None => Err(Stop::Syntax(after.len())),
+        },
+    }
+}

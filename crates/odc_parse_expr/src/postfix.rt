@@ -1,0 +1,245 @@
+//! What stands behind operands.
+
+ghost use Rattle.std.specs.Prelude.{◌≡◌, ◌∷◌, ◌<◌, ◌≤◌, ◌+◌, length, true, IfOk};
+ghost use Rattle.odc_syntax.specs.Grammar as g;
+ghost use Rattle.odc_syntax.specs.Grammar.{suffixed};
+ghost use Rattle.odc_syntax.specs.View.{expr};
+ghost use Rattle.odc_syntax.specs.declared.token.TokenKind.TheVariants as kind;
+ghost use Rattle.odc_parse_base.specs.Exact.{Exact, one};
+ghost use Rattle.odc_parse_base.specs.Forms.{suffix_form};
+ghost use Rattle.odc_parse_base.specs.Parts.{high_line};
+ghost use Rattle.odc_parse_base.specs.Read.{seen};
+ghost use Rattle.odc_parse_base.specs.Sets.{starts_suffix, nothing_continues};
+ghost use Rattle.odc_parse_expr.specs.Suffixes.{suffix, high_of};
+
+use crate::arguments::{ArgumentList, arguments};
+use crate::binary::level;
+use crate::operand::operand;
+use crate::types::ty;
+use odc_nodes::nodes;
+use odc_parse_base::end::{End, over};
+use odc_parse_base::stop::Stop;
+use odc_parse_base::suffix::{SuffixForm, next_suffix};
+use odc_parse_base::tokens::{expect, strip, within};
+use odc_syntax::grammar::{Level, Mode, Use};
+use odc_syntax::token::{Token, TokenKind};
+use odc_syntax::tree::{Arg, Expr, Type};
+use odc_text::place::Place;
+use std::alloc::{AllocError, Global};
+
+/// What stands behind an operand, with the place of its first token where the node has that place.
+pub enum Suffix {
+    /// `.x`
+    Select(Place, Token),
+    /// `.(T)`
+    Assert(Place, Type),
+    /// `^`
+    Deref(Place),
+    /// `[i]`
+    Index(Place, Expr),
+    /// `[a:b]`
+    Cut(Place, Option<Expr>, Option<Expr>),
+    /// `(x, ..)`
+    Call(Vec<Arg>),
+    /// `or_return`
+    OrReturn,
+    /// `{x, ..}`
+    Literal(Vec<Arg>),
+}
+
+/// An operand with what stands behind it.
+#[cycle(parser)]
+pub fn postfix<'a>(
+    alloc: Global,
+    mode: Mode,
+    tokens: &'a [Token],
+    depth: u8,
+) -> Result<(Expr, u16, &'a [Token]), Stop>
+    ensures exact { Exact (one (g.postfix mode)) (starts_suffix mode) depth tokens.now (seen expr result) }
+    ensures shorter { IfOk result (λ r. length r.2.now < length tokens.now) }
+    ensures low { IfOk result (λ r. r.1 ≤ depth + 1) }
+{
+    let (mut e, mut height, mut rest, mut end) = match operand(alloc, mode, tokens, depth) {
+        Ok(read) => read,
+        Err(error) => return Err(error),
+    };
+    while let Some((form, token, behind)) = next_suffix(mode, rest) {
+        if height >= u16::from(depth) {
+            return Err(nodes::discard(e, over(end, behind)));
+        }
+        let (s, n, after) = match read_suffix(alloc, mode, form, token, behind, depth - 1) {
+            Ok(read) => read,
+            Err(error) => return Err(nodes::discard(e, error)),
+        };
+        e = applied(alloc, e, s)?;
+        height = height.max(n) + 1;
+        rest = after;
+        end = End::Sure;
+    }
+    Ok((e, height, rest))
+}
+
+/// What stands behind an operand, from its first token on.
+#[cycle(parser)]
+fn read_suffix<'a>(
+    alloc: Global,
+    mode: Mode,
+    form: SuffixForm,
+    token: Token,
+    behind: &'a [Token],
+    depth: u8,
+) -> Result<(Suffix, u16, &'a [Token]), Stop>
+    ensures exact { suffix_form mode token.kind ≡ form → starts_suffix mode token.kind ≡ true → Exact (one (g.suffix mode)) nothing_continues depth (token ∷ behind.now) (seen suffix result) }
+    ensures shorter { IfOk result (λ r. length r.2.now ≤ length behind.now) }
+    ensures low { IfOk result (λ r. r.1 ≤ depth + 1) }
+{
+    match form {
+        SuffixForm::Deref => Ok((Suffix::Deref(token.at), 0, behind)),
+        SuffixForm::OrReturn => Ok((Suffix::OrReturn, 0, behind)),
+        SuffixForm::Member => member(alloc, mode, token, behind, depth),
+        SuffixForm::Bracket => bracket(alloc, mode, token, behind, depth),
+        SuffixForm::Call => match arguments(alloc, TokenKind::CloseParen, behind, depth) {
+            Ok((list, height, rest)) => {
+                let ArgumentList { args, close: _ } = list;
+                Ok((Suffix::Call(args), height, rest))
+            }
+            Err(error) => Err(error),
+        },
+        SuffixForm::Literal => match arguments(alloc, TokenKind::CloseBrace, behind, depth) {
+            Ok((list, height, rest)) => {
+                let ArgumentList { args, close: _ } = list;
+                Ok((Suffix::Literal(args), height, rest))
+            }
+            Err(error) => Err(error),
+        },
+        SuffixForm::Nothing => Err(Stop::Syntax(behind.len())),
+    }
+}
+
+/// `.` with a name, or with a type in parentheses.
+#[cycle(parser)]
+fn member<'a>(
+    alloc: Global,
+    mode: Mode,
+    dot: Token,
+    behind: &'a [Token],
+    depth: u8,
+) -> Result<(Suffix, u16, &'a [Token]), Stop>
+    ensures exact { dot.kind ≡ kind.Dot → Exact (one (g.suffix mode)) nothing_continues depth (dot ∷ behind.now) (seen suffix result) }
+    ensures shorter { IfOk result (λ r. length r.2.now ≤ length behind.now) }
+    ensures low { IfOk result (λ r. r.1 ≤ depth + 1) }
+{
+    if let Some((name, rest)) = strip(behind, TokenKind::Name) {
+        return Ok((Suffix::Select(dot.at, name), 0, rest));
+    }
+    let (_open, inner) = match strip(behind, TokenKind::OpenParen) {
+        Some(found) => found,
+        None => return Err(Stop::Syntax(behind.len())),
+    };
+    let (t, height, after) = match ty(alloc, Use::Plain, inner, depth) {
+        Ok(read) => read,
+        Err(error) => return Err(error),
+    };
+    match expect(after, TokenKind::CloseParen, within(height, depth)) {
+        Ok((_close, rest)) => Ok((Suffix::Assert(dot.at, t), height, rest)),
+        Err(error) => Err(nodes::discard_type(t, error)),
+    }
+}
+
+/// An index or a cut.
+#[cycle(parser)]
+fn bracket<'a>(
+    alloc: Global,
+    mode: Mode,
+    bracket: Token,
+    behind: &'a [Token],
+    depth: u8,
+) -> Result<(Suffix, u16, &'a [Token]), Stop>
+    ensures exact { bracket.kind ≡ kind.OpenBracket → Exact (one (g.suffix mode)) nothing_continues depth (bracket ∷ behind.now) (seen suffix result) }
+    ensures shorter { IfOk result (λ r. length r.2.now ≤ length behind.now) }
+    ensures low { IfOk result (λ r. r.1 ≤ depth + 1) }
+{
+    if let Some((_colon, rest)) = strip(behind, TokenKind::Colon) {
+        return match high(alloc, rest, depth) {
+            Ok((end, height, after)) => {
+                let HighEnd { value, close: _ } = end;
+                Ok((Suffix::Cut(bracket.at, None, value), height, after))
+            }
+            Err(error) => Err(error),
+        };
+    }
+    let (e, n, after) = match level(alloc, Level::Or, Mode::Free, behind, depth) {
+        Ok(read) => read,
+        Err(error) => return Err(error),
+    };
+    if let Some((_close, rest)) = strip(after, TokenKind::CloseBracket) {
+        if n <= u16::from(depth) {
+            return Ok((Suffix::Index(bracket.at, e), n, rest));
+        }
+        return Err(nodes::discard(e, Stop::Deep(rest.len())));
+    }
+    let (_colon, rest) = match expect(after, TokenKind::Colon, within(n, depth)) {
+        Ok(found) => found,
+        Err(error) => return Err(nodes::discard(e, error)),
+    };
+    match high(alloc, rest, depth) {
+        Ok((end, m, last)) => {
+            let HighEnd { value, close: _ } = end;
+            Ok((Suffix::Cut(bracket.at, Some(e), value), n.max(m), last))
+        }
+        Err(error) => Err(nodes::discard(e, error)),
+    }
+}
+
+/// The high end of a cut, if it is given, and the closing bracket.
+pub struct HighEnd {
+    pub value: Option<Expr>,
+    pub close: Token,
+}
+
+/// The high end of a cut, if it is given, up to the closing bracket.
+#[cycle(parser)]
+fn high<'a>(
+    alloc: Global,
+    tokens: &'a [Token],
+    depth: u8,
+) -> Result<(HighEnd, u16, &'a [Token]), Stop>
+    ensures exact { Exact high_line nothing_continues depth tokens.now (seen high_of result) }
+    ensures shorter { IfOk result (λ r. length r.2.now < length tokens.now) }
+    ensures low { IfOk result (λ r. r.1 ≤ depth + 1) }
+{
+    if let Some((close, rest)) = strip(tokens, TokenKind::CloseBracket) {
+        return Ok((HighEnd { value: None, close }, 0, rest));
+    }
+    let (e, height, after) = match level(alloc, Level::Or, Mode::Free, tokens, depth) {
+        Ok(read) => read,
+        Err(error) => return Err(error),
+    };
+    match expect(after, TokenKind::CloseBracket, within(height, depth)) {
+        Ok((close, rest)) => Ok((
+            HighEnd {
+                value: Some(e),
+                close,
+            },
+            height,
+            rest,
+        )),
+        Err(error) => Err(nodes::discard(e, error)),
+    }
+}
+
+/// An expression with what stands behind it.
+fn applied(alloc: Global, e: Expr, s: Suffix) -> Result<Expr, AllocError>
+    ensures { IfOk result (λ u. expr u ≡ suffixed (expr e) (suffix s)) }
+{
+    match s {
+        Suffix::Select(at, name) => nodes::select(alloc, e, at, name),
+        Suffix::Assert(at, ty) => nodes::assert(alloc, e, at, ty),
+        Suffix::Deref(at) => nodes::deref(alloc, e, at),
+        Suffix::Index(at, index) => nodes::element(alloc, e, at, index),
+        Suffix::Cut(at, low, high) => nodes::cut(alloc, e, at, low, high),
+        Suffix::Call(list) => nodes::call(alloc, e, list),
+        Suffix::OrReturn => nodes::or_return(alloc, e),
+        Suffix::Literal(list) => nodes::literal_of(alloc, e, list),
+    }
+}

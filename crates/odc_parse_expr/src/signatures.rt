@@ -1,0 +1,99 @@
+//! What procedures take and give.
+
+ghost use Rattle.std.specs.Prelude.{◌≡◌, ◌∷◌, ◌<◌, ◌≤◌, ◌+◌, ℕ, suc, length, IfOk};
+ghost use Rattle.odc_syntax.specs.Grammar as g;
+ghost use Rattle.odc_syntax.specs.View.{result_kind};
+ghost use Rattle.odc_syntax.specs.declared.token.TokenKind.TheVariants as kind;
+ghost use Rattle.odc_parse_base.specs.Ends.{ExactAs, seen_to, closed_by};
+ghost use Rattle.odc_parse_base.specs.Exact.{Exact, one};
+ghost use Rattle.odc_parse_base.specs.Sets.{nothing_continues};
+ghost use Rattle.odc_parse_base.specs.TypeParts.{params_line, Convention};
+ghost use Rattle.odc_nodes.specs.TypeViews.{params, signature};
+
+use crate::params::params;
+use crate::types::type_to;
+use odc_nodes::type_nodes;
+use odc_parse_base::end::{End, at_end};
+use odc_parse_base::stop::Stop;
+use odc_parse_base::tokens::{expect, strip};
+use odc_syntax::grammar::Use;
+use odc_syntax::token::{Token, TokenKind};
+use odc_syntax::tree::{Results, Signature};
+use std::alloc::Global;
+
+/// A signature, from behind `proc`.
+#[cycle(parser)]
+pub fn signature<'a>(
+    alloc: Global,
+    used: Use,
+    proc: Token,
+    behind: &'a [Token],
+    depth: u8,
+) -> Result<(Signature, u16, &'a [Token], End), Stop>
+    ensures exact { proc.kind ≡ kind.Proc → ExactAs used (one (g.sig used)) nothing_continues depth (proc ∷ behind.now) (seen_to signature result) }
+    ensures shorter { IfOk result (λ r. length r.2.now ≤ length behind.now) }
+    ensures low { IfOk result (λ r. r.1 ≤ depth) }
+{
+    let (convention, after) = convention(behind);
+    let (_open, inner) = match expect(after, TokenKind::OpenParen, true) {
+        Ok(found) => found,
+        Err(error) => return Err(error),
+    };
+    let (list, _close, n, rest) = match params(alloc, Use::Parameter, inner, depth) {
+        Ok(read) => read,
+        Err(error) => return Err(error),
+    };
+    match results(alloc, used, rest, depth) {
+        Ok((given, m, last, end)) => Ok((
+            type_nodes::signature(proc.at, convention, list, given),
+            n.max(m),
+            last,
+            end,
+        )),
+        Err(error) => Err(type_nodes::discard_params(list, error)),
+    }
+}
+
+/// The string behind `proc`, if one stands there, and the tokens behind it.
+fn convention(tokens: &[Token]) -> (Option<Token>, &[Token])
+    ensures is { Convention tokens.now result.0 result.1.now }
+    ensures shorter { length result.1.now ≤ length tokens.now }
+{
+    match strip(tokens, TokenKind::Text) {
+        Some((text, rest)) => (Some(text), rest),
+        None => (None, tokens),
+    }
+}
+
+/// What a procedure gives, if it gives something.
+#[cycle(parser)]
+fn results<'a>(
+    alloc: Global,
+    used: Use,
+    tokens: &'a [Token],
+    depth: u8,
+) -> Result<(Results, u16, &'a [Token], End), Stop>
+    ensures exact { ExactAs used (one (g.results used)) nothing_continues depth tokens.now (seen_to result_kind result) }
+    ensures shorter { IfOk result (λ r. length r.2.now ≤ length tokens.now) }
+    ensures low { IfOk result (λ r. r.1 ≤ depth) }
+{
+    let (_arrow, behind) = match strip(tokens, TokenKind::Arrow) {
+        Some(found) => found,
+        None => return Ok((Results::None, 0, tokens, End::Sure)),
+    };
+    match strip(behind, TokenKind::OpenParen) {
+        Some((_open, inner)) => match strip(inner, TokenKind::CloseParen) {
+            Some((_close, _last)) => Err(Stop::Syntax(inner.len())),
+            None => match params(alloc, used, inner, depth) {
+                Ok((list, _close, height, rest)) => {
+                    Ok((type_nodes::listed(list), height, rest, End::Sure))
+                }
+                Err(error) => Err(error),
+            },
+        },
+        None => match type_to(alloc, at_end(used), behind, depth) {
+            Ok((t, height, rest, end)) => Ok((type_nodes::one(alloc, t)?, height, rest, end)),
+            Err(error) => Err(error),
+        },
+    }
+}

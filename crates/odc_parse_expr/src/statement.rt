@@ -1,0 +1,306 @@
+//! Statements.
+
+ghost use Rattle.std.specs.Prelude.{◌≡◌, ◌∷◌, ◌<◌, ◌≤◌, ◌+◌, length, true, IfOk, IfErr, IfSome, IfNone};
+ghost use Rattle.odc_syntax.specs.Grammar as g;
+ghost use Rattle.odc_syntax.specs.View.{stmt};
+ghost use Rattle.odc_syntax.specs.declared.token.TokenKind.TheVariants as kind;
+ghost use Rattle.odc_parse_base.specs.declared.statement_form.StatementForm.TheVariants as forms;
+ghost use Rattle.odc_parse_base.specs.Exact.{Exact, one};
+ghost use Rattle.odc_parse_base.specs.Read.{seen, refused};
+ghost use Rattle.odc_parse_base.specs.Runs.{NotLabelled};
+ghost use Rattle.odc_parse_base.specs.StatementForms.{statement_form};
+ghost use Rattle.odc_parse_base.specs.Statements.{LabelledRead, labelled_part};
+ghost use Rattle.odc_parse_base.specs.StatementSets.{continues_statement, continues_simple, EndsSimple};
+
+use crate::block::{Braced, braces, stands_at};
+use crate::conditional::if_statement;
+use crate::declaration::declaration;
+use crate::exprs::exprs;
+use crate::loops::loop_statement;
+use crate::runs::{label, names_end};
+use crate::simple::{assignment_of, simple};
+use crate::switches::switch_statement;
+use crate::types::ty;
+use odc_nodes::{nodes, stmt_nodes};
+use odc_parse_base::operators::goes_on;
+use odc_parse_base::statement_form::{StatementForm, statement_form};
+use odc_parse_base::stop::Stop;
+use odc_parse_base::tokens::{first, same_kind, strip};
+use odc_syntax::grammar::{Mode, Use};
+use odc_syntax::token::{Token, TokenKind};
+use odc_syntax::tree::{ExprKind, Stmt, StmtKind};
+use std::alloc::Global;
+
+/// A statement.
+#[cycle(parser)]
+pub fn statement<'a>(
+    alloc: Global,
+    tokens: &'a [Token],
+    depth: u8,
+) -> Result<(Stmt, u16, &'a [Token]), Stop>
+    ensures exact { Exact (one g.statement) continues_statement depth tokens.now (seen stmt result) }
+    ensures shorter { IfOk result (λ r. length r.2.now < length tokens.now) }
+    ensures low { IfOk result (λ r. r.1 ≤ depth + 1) }
+{
+    let (token, behind) = match first(tokens) {
+        Some(found) => found,
+        None => return Err(Stop::Syntax(0)),
+    };
+    match statement_form(token) {
+        StatementForm::Simple => simple(alloc, Mode::Start, tokens, depth),
+        StatementForm::If => if_statement(alloc, tokens, depth),
+        StatementForm::Named => named(alloc, token, behind, tokens, depth),
+        StatementForm::Labelled => bare(alloc, token, behind, tokens, depth),
+        StatementForm::Defer => defer(alloc, token, behind, depth),
+        StatementForm::Return => returns(alloc, token, behind, depth),
+        StatementForm::Break => breaks(token, behind, depth),
+        StatementForm::Continue => continues(token, behind, depth),
+        StatementForm::Fallthrough => fallthrough(token, behind, depth),
+    }
+}
+
+/// A statement that begins with a name: a declaration, a label, an assignment or expressions.
+#[cycle(parser)]
+fn named<'a>(
+    alloc: Global,
+    name: Token,
+    behind: &'a [Token],
+    tokens: &'a [Token],
+    depth: u8,
+) -> Result<(Stmt, u16, &'a [Token]), Stop>
+    ensures exact { tokens.now ≡ name ∷ behind.now → name.kind ≡ kind.Name → Exact (one g.statement) continues_statement depth tokens.now (seen stmt result) }
+    ensures shorter { tokens.now ≡ name ∷ behind.now → IfOk result (λ r. length r.2.now < length tokens.now) }
+    ensures low { IfOk result (λ r. r.1 ≤ depth + 1) }
+{
+    if depth == 0 {
+        return Err(Stop::Deep(behind.len()));
+    }
+    if let Some((mark, rest)) = label(tokens) {
+        return match labelled(alloc, Some(mark), rest, depth - 1) {
+            Ok((s, height, after)) => Ok((s, height + 1, after)),
+            Err(error) => Err(error),
+        };
+    }
+    if depth == 1 {
+        return last_level(alloc, name, behind);
+    }
+    match names_end(tokens) {
+        Ok(_rest) => match declaration(alloc, Mode::Free, tokens, depth - 1) {
+            Ok((d, height, after)) => Ok((stmt_nodes::declare(alloc, d)?, height + 1, after)),
+            Err(error) => Err(error),
+        },
+        Err(_rest) => simple(alloc, Mode::Start, tokens, depth),
+    }
+}
+
+/// A name that begins a statement where one level is left: it may be a label, which it is not here, and all
+/// else is too deep.
+#[cycle(parser)]
+fn last_level(alloc: Global, name: Token, behind: &[Token]) -> Result<(Stmt, u16, &[Token]), Stop>
+    ensures exact { name.kind ≡ kind.Name → NotLabelled (name ∷ behind.now) → Exact (one g.statement) continues_statement 1 (name ∷ behind.now) (seen stmt result) }
+    ensures shorter { IfOk result (λ r. length r.2.now ≤ length behind.now) }
+    ensures low { IfOk result (λ r. r.1 ≤ 2) }
+{
+    if let Some((colon, rest)) = strip(behind, TokenKind::Colon) {
+        return Err(declared_too_deep(alloc, name, colon, rest));
+    }
+    match clause_on(Mode::Start, behind) {
+        Some((_token, rest)) => Err(Stop::Deep(rest.len())),
+        None => {
+            let list = stmt_nodes::only(alloc, nodes::leaf(name.at, ExprKind::Name(name)))?;
+            Ok((stmt_nodes::eval(name.at, list), 2, behind))
+        }
+    }
+}
+
+/// Why nothing is declared by a name and `:` where one level is left.
+#[cycle(parser)]
+fn declared_too_deep(alloc: Global, name: Token, colon: Token, tokens: &[Token]) -> Stop
+    ensures exact { name.kind ≡ kind.Name → colon.kind ≡ kind.Colon → NotLabelled (name ∷ colon ∷ tokens.now)
+        → Exact (one g.statement) continues_statement 1 (name ∷ colon ∷ tokens.now) (refused result) }
+{
+    if let Some((_assign, rest)) = strip(tokens, TokenKind::Assign) {
+        return Stop::Deep(rest.len());
+    }
+    if let Some((_colon, rest)) = strip(tokens, TokenKind::Colon) {
+        return Stop::Deep(rest.len());
+    }
+    match ty(alloc, Use::Plain, tokens, 0) {
+        Ok((t, _height, _rest)) => nodes::discard_type(t, Stop::Memory),
+        Err(error) => error,
+    }
+}
+
+/// Whether an assignment or expressions that stand so may go on with a token of this kind.
+pub fn goes_on_simple(mode: Mode, kind: TokenKind) -> bool
+    ensures { result ≡ continues_simple mode kind }
+{
+    same_kind(kind, TokenKind::Comma) || goes_on(mode, kind) || assignment_of(kind).is_some()
+}
+
+/// A first token with which an assignment or expressions may go on, and the tokens behind it.
+fn clause_on(mode: Mode, tokens: &[Token]) -> Option<(Token, &[Token])>
+    ensures is { IfSome result (λ r. tokens.now ≡ r.0 ∷ r.1.now) }
+    ensures on { IfSome result (λ r. continues_simple mode r.0.kind ≡ true) }
+    ensures none { IfNone result (EndsSimple mode tokens.now) }
+{
+    let (token, rest) = first(tokens)?;
+    if goes_on_simple(mode, token.kind) {
+        Some((token, rest))
+    } else {
+        None
+    }
+}
+
+/// A block, a loop or a switch without a label.
+#[cycle(parser)]
+fn bare<'a>(
+    alloc: Global,
+    token: Token,
+    behind: &'a [Token],
+    tokens: &'a [Token],
+    depth: u8,
+) -> Result<(Stmt, u16, &'a [Token]), Stop>
+    ensures exact { tokens.now ≡ token ∷ behind.now → statement_form token ≡ forms.Labelled → Exact (one g.statement) continues_statement depth tokens.now (seen stmt result) }
+    ensures shorter { IfOk result (λ r. length r.2.now < length tokens.now) }
+    ensures low { IfOk result (λ r. r.1 ≤ depth + 1) }
+{
+    if depth == 0 {
+        return Err(Stop::Deep(behind.len()));
+    }
+    match labelled(alloc, None, tokens, depth - 1) {
+        Ok((s, height, after)) => Ok((s, height + 1, after)),
+        Err(error) => Err(error),
+    }
+}
+
+/// `defer`
+#[cycle(parser)]
+fn defer<'a>(
+    alloc: Global,
+    token: Token,
+    behind: &'a [Token],
+    depth: u8,
+) -> Result<(Stmt, u16, &'a [Token]), Stop>
+    ensures exact { statement_form token ≡ forms.Defer → Exact (one g.statement) continues_statement depth (token ∷ behind.now) (seen stmt result) }
+    ensures shorter { IfOk result (λ r. length r.2.now ≤ length behind.now) }
+    ensures low { IfOk result (λ r. r.1 ≤ depth + 1) }
+{
+    if depth == 0 {
+        return Err(Stop::Deep(behind.len()));
+    }
+    match statement(alloc, behind, depth - 1) {
+        Ok((s, height, after)) => Ok((stmt_nodes::defer(alloc, token.at, s)?, height + 1, after)),
+        Err(error) => Err(error),
+    }
+}
+
+/// `return`
+#[cycle(parser)]
+fn returns<'a>(
+    alloc: Global,
+    token: Token,
+    behind: &'a [Token],
+    depth: u8,
+) -> Result<(Stmt, u16, &'a [Token]), Stop>
+    ensures exact { statement_form token ≡ forms.Return → Exact (one g.statement) continues_statement depth (token ∷ behind.now) (seen stmt result) }
+    ensures shorter { IfOk result (λ r. length r.2.now ≤ length behind.now) }
+    ensures low { IfOk result (λ r. r.1 ≤ depth + 1) }
+{
+    if depth == 0 {
+        return Err(Stop::Deep(behind.len()));
+    }
+    match exprs(alloc, Mode::Free, behind, depth - 1) {
+        Ok((values, height, after)) => {
+            Ok((stmt_nodes::returns(token.at, values), height + 1, after))
+        }
+        Err(error) => {
+            if stands_at(error, behind.len()) {
+                let nothing = Vec::new(alloc);
+                Ok((stmt_nodes::returns(token.at, nothing), 1, behind))
+            } else {
+                Err(error)
+            }
+        }
+    }
+}
+
+/// `break`, with a label or without.
+fn breaks(token: Token, behind: &[Token], depth: u8) -> Result<(Stmt, u16, &[Token]), Stop>
+    ensures exact { statement_form token ≡ forms.Break → Exact (one g.statement) continues_statement depth (token ∷ behind.now) (seen stmt result) }
+    ensures shorter { IfOk result (λ r. length r.2.now ≤ length behind.now) }
+    ensures low { IfOk result (λ r. r.1 ≤ depth + 1) }
+{
+    if depth == 0 {
+        return Err(Stop::Deep(behind.len()));
+    }
+    match strip(behind, TokenKind::Name) {
+        Some((name, rest)) => {
+            let s = stmt_nodes::leaf(token.at, StmtKind::Break(Some(name)));
+            Ok((s, 1, rest))
+        }
+        None => Ok((stmt_nodes::leaf(token.at, StmtKind::Break(None)), 1, behind)),
+    }
+}
+
+/// `continue`, with a label or without.
+fn continues(token: Token, behind: &[Token], depth: u8) -> Result<(Stmt, u16, &[Token]), Stop>
+    ensures exact { statement_form token ≡ forms.Continue → Exact (one g.statement) continues_statement depth (token ∷ behind.now) (seen stmt result) }
+    ensures shorter { IfOk result (λ r. length r.2.now ≤ length behind.now) }
+    ensures low { IfOk result (λ r. r.1 ≤ depth + 1) }
+{
+    if depth == 0 {
+        return Err(Stop::Deep(behind.len()));
+    }
+    match strip(behind, TokenKind::Name) {
+        Some((name, rest)) => {
+            let s = stmt_nodes::leaf(token.at, StmtKind::Continue(Some(name)));
+            Ok((s, 1, rest))
+        }
+        None => Ok((
+            stmt_nodes::leaf(token.at, StmtKind::Continue(None)),
+            1,
+            behind,
+        )),
+    }
+}
+
+/// `fallthrough`
+fn fallthrough(token: Token, behind: &[Token], depth: u8) -> Result<(Stmt, u16, &[Token]), Stop>
+    ensures exact { statement_form token ≡ forms.Fallthrough → Exact (one g.statement) continues_statement depth (token ∷ behind.now) (seen stmt result) }
+    ensures shorter { IfOk result (λ r. length r.2.now ≤ length behind.now) }
+    ensures low { IfOk result (λ r. r.1 ≤ depth + 1) }
+{
+    if depth == 0 {
+        return Err(Stop::Deep(behind.len()));
+    }
+    Ok((stmt_nodes::leaf(token.at, StmtKind::Fallthrough), 1, behind))
+}
+
+/// A block, a loop or a switch, as a statement with this label, whose parts may have this depth.
+#[cycle(parser)]
+fn labelled<'a>(
+    alloc: Global,
+    label: Option<Token>,
+    tokens: &'a [Token],
+    depth: u8,
+) -> Result<(Stmt, u16, &'a [Token]), Stop>
+    ensures read { IfOk result (λ r. LabelledRead label depth tokens.now (stmt r.0) r.1 r.2.now) }
+    ensures refused { IfErr result (λ e. Exact (one labelled_part) continues_statement depth tokens.now (refused e)) }
+    ensures shorter { IfOk result (λ r. length r.2.now < length tokens.now) }
+    ensures low { IfOk result (λ r. r.1 ≤ depth + 1) }
+{
+    if let Some((open, inner)) = strip(tokens, TokenKind::OpenBrace) {
+        return match braces(alloc, inner, depth) {
+            Ok((body, height, rest)) => {
+                let Braced { stmts, close: _ } = body;
+                Ok((stmt_nodes::block(label, open.at, stmts), height, rest))
+            }
+            Err(error) => Err(error),
+        };
+    }
+    match strip(tokens, TokenKind::For) {
+        Some((token, behind)) => loop_statement(alloc, label, token, behind, depth),
+        None => switch_statement(alloc, label, tokens, depth),
+    }
+}

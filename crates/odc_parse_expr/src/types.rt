@@ -1,0 +1,304 @@
+//! Types.
+
+ghost use Rattle.std.specs.Prelude.{◌≡◌, ◌∷◌, ◌<◌, ◌≤◌, ◌+◌, ℕ, suc, length, IfOk, Some};
+ghost use Rattle.odc_syntax.specs.Grammar as g;
+ghost use Rattle.odc_syntax.specs.View.{type};
+ghost use Rattle.odc_syntax.specs.declared.token.TokenKind.TheVariants as kind;
+ghost use Rattle.odc_parse_base.specs.Ends.{ExactAs, seen_to};
+ghost use Rattle.odc_parse_base.specs.Exact.{Exact, one};
+ghost use Rattle.odc_parse_base.specs.Read.{seen};
+ghost use Rattle.odc_parse_base.specs.Sets.{nothing_continues};
+ghost use Rattle.odc_parse_base.specs.TypeForms.{own_form, built_form};
+ghost use Rattle.odc_parse_base.specs.declared.type_form.BuiltForm.TheVariants as built;
+
+use crate::arrays::array;
+use crate::fields::{enum_type, struct_type, union_type};
+use crate::signatures::signature;
+use odc_nodes::type_nodes;
+use odc_parse_base::end::{End, at_end, ends_operand, inside};
+use odc_parse_base::shape::Shape;
+use odc_parse_base::stop::Stop;
+use odc_parse_base::tokens::{expect, first, strip, within};
+use odc_parse_base::type_form::{BuiltForm, OwnForm, built_form, own_form};
+use odc_syntax::grammar::Use;
+use odc_syntax::token::{Token, TokenKind};
+use odc_syntax::tree::Type;
+use std::alloc::Global;
+
+/// A type that stands in brackets of one that stands so, or where no expression may stand.
+#[cycle(parser)]
+pub fn ty<'a>(
+    alloc: Global,
+    used: Use,
+    tokens: &'a [Token],
+    depth: u8,
+) -> Result<(Type, u16, &'a [Token]), Stop>
+    ensures exact { Exact (one (g.type_ (g.inside used))) nothing_continues depth tokens.now (seen type result) }
+    ensures shorter { IfOk result (λ r. length r.2.now < length tokens.now) }
+    ensures low { IfOk result (λ r. r.1 ≤ depth) }
+{
+    match type_to(alloc, inside(used), tokens, depth) {
+        Ok((t, height, rest, _end)) => Ok((t, height, rest)),
+        Err(error) => Err(error),
+    }
+}
+
+/// A type, and how it ends.
+#[cycle(parser)]
+pub fn type_to<'a>(
+    alloc: Global,
+    used: Use,
+    tokens: &'a [Token],
+    depth: u8,
+) -> Result<(Type, u16, &'a [Token], End), Stop>
+    ensures exact { ExactAs used (one (g.type_ used)) nothing_continues depth tokens.now (seen_to type result) }
+    ensures shorter { IfOk result (λ r. length r.2.now < length tokens.now) }
+    ensures low { IfOk result (λ r. r.1 ≤ depth) }
+{
+    let (token, behind) = match first(tokens) {
+        Some(found) => found,
+        None => return Err(Stop::Syntax(0)),
+    };
+    match own_form(token.kind) {
+        Some(form) => {
+            if depth == 0 {
+                return Err(Stop::Deep(behind.len()));
+            }
+            own(alloc, used, form, token, behind, depth - 1)
+        }
+        None => constructed(alloc, used, tokens, depth),
+    }
+}
+
+/// A type that begins as an operand of another kind may, whose parts may have this depth.
+#[cycle(parser)]
+fn own<'a>(
+    alloc: Global,
+    used: Use,
+    form: OwnForm,
+    token: Token,
+    behind: &'a [Token],
+    depth: u8,
+) -> Result<(Type, u16, &'a [Token], End), Stop>
+    ensures exact { own_form token.kind ≡ Some form → ExactAs used (one (g.type_ used)) nothing_continues (suc depth) (token ∷ behind.now) (seen_to type result) }
+    ensures shorter { IfOk result (λ r. length r.2.now ≤ length behind.now) }
+    ensures low { IfOk result (λ r. r.1 ≤ depth + 1) }
+{
+    match form {
+        OwnForm::Name => name(used, token, behind),
+        OwnForm::Group => group(alloc, used, token, behind, depth),
+        OwnForm::Proc => match signature(alloc, used, token, behind, depth) {
+            Ok((s, height, rest, end)) => Ok((
+                type_nodes::procedure(alloc, token.at, s)?,
+                height + 1,
+                rest,
+                end,
+            )),
+            Err(error) => Err(error),
+        },
+    }
+}
+
+/// A name, or one of another package.
+fn name(used: Use, token: Token, behind: &[Token]) -> Result<(Type, u16, &[Token], End), Stop>
+    ensures exact { token.kind ≡ kind.Name → (b : ℕ) → ExactAs used (one (g.type_ used)) nothing_continues (suc b) (token ∷ behind.now) (seen_to type result) }
+    ensures shorter { IfOk result (λ r. length r.2.now ≤ length behind.now) }
+    ensures low { IfOk result (λ r. r.1 ≤ 1) }
+{
+    match strip(behind, TokenKind::Dot) {
+        None => Ok((type_nodes::named(token), 1, behind, End::Sure)),
+        Some((_dot, rest)) => match strip(rest, TokenKind::Name) {
+            Some((second, after)) => Ok((type_nodes::member(token, second), 1, after, End::Sure)),
+            None => {
+                if ends_operand(used) {
+                    Ok((type_nodes::named(token), 1, behind, End::BeforeDot))
+                } else {
+                    Err(Stop::Syntax(rest.len()))
+                }
+            }
+        },
+    }
+}
+
+/// A type in parentheses, which may have this depth.
+#[cycle(parser)]
+fn group<'a>(
+    alloc: Global,
+    used: Use,
+    paren: Token,
+    behind: &'a [Token],
+    depth: u8,
+) -> Result<(Type, u16, &'a [Token], End), Stop>
+    ensures exact { paren.kind ≡ kind.OpenParen → ExactAs used (one (g.type_ used)) nothing_continues (suc depth) (paren ∷ behind.now) (seen_to type result) }
+    ensures shorter { IfOk result (λ r. length r.2.now ≤ length behind.now) }
+    ensures low { IfOk result (λ r. r.1 ≤ depth + 1) }
+{
+    let (t, height, after) = match ty(alloc, used, behind, depth) {
+        Ok(read) => read,
+        Err(error) => return Err(error),
+    };
+    match expect(after, TokenKind::CloseParen, within(height, depth)) {
+        Ok((_close, rest)) => Ok((t, height + 1, rest, End::Sure)),
+        Err(error) => Err(type_nodes::discard_type(t, error)),
+    }
+}
+
+/// A type but one that begins with a name, a parenthesis or `proc`.
+#[cycle(parser)]
+pub fn constructed<'a>(
+    alloc: Global,
+    used: Use,
+    tokens: &'a [Token],
+    depth: u8,
+) -> Result<(Type, u16, &'a [Token], End), Stop>
+    ensures exact { ExactAs used (one (g.constructed used)) nothing_continues depth tokens.now (seen_to type result) }
+    ensures shorter { IfOk result (λ r. length r.2.now < length tokens.now) }
+    ensures low { IfOk result (λ r. r.1 ≤ depth) }
+{
+    let (token, behind) = match first(tokens) {
+        Some(found) => found,
+        None => return Err(Stop::Syntax(0)),
+    };
+    let form = match built_form(used, token) {
+        Some(form) => form,
+        None => return Err(Stop::Syntax(tokens.len())),
+    };
+    if depth == 0 {
+        return Err(Stop::Deep(behind.len()));
+    }
+    build(alloc, used, form, token, behind, depth - 1)
+}
+
+/// A type of this form, whose parts may have this depth.
+#[cycle(parser)]
+fn build<'a>(
+    alloc: Global,
+    used: Use,
+    form: BuiltForm,
+    token: Token,
+    behind: &'a [Token],
+    depth: u8,
+) -> Result<(Type, u16, &'a [Token], End), Stop>
+    ensures exact { built_form used token ≡ Some form → ExactAs used (one (g.constructed used)) nothing_continues (suc depth) (token ∷ behind.now) (seen_to type result) }
+    ensures shorter { IfOk result (λ r. length r.2.now ≤ length behind.now) }
+    ensures low { IfOk result (λ r. r.1 ≤ depth + 1) }
+{
+    match form {
+        BuiltForm::Pointer => pointer(alloc, used, token, behind, depth),
+        BuiltForm::Distinct => distinct(alloc, used, token, behind, depth),
+        BuiltForm::Dollar => dollar(used, token, behind),
+        BuiltForm::WordProc => word_proc(alloc, used, token, behind, depth),
+        BuiltForm::Array => array(alloc, used, Shape::Array, token.at, behind, depth),
+        BuiltForm::Soa => soa(alloc, used, token, behind, depth),
+        BuiltForm::Struct => struct_type(alloc, used, token, behind, depth),
+        BuiltForm::Union => union_type(alloc, used, token, behind, depth),
+        BuiltForm::Enum => enum_type(alloc, used, token, behind, depth),
+    }
+}
+
+/// `^T`
+#[cycle(parser)]
+fn pointer<'a>(
+    alloc: Global,
+    used: Use,
+    token: Token,
+    behind: &'a [Token],
+    depth: u8,
+) -> Result<(Type, u16, &'a [Token], End), Stop>
+    ensures exact { token.kind ≡ kind.Caret → ExactAs used (one (g.constructed used)) nothing_continues (suc depth) (token ∷ behind.now) (seen_to type result) }
+    ensures shorter { IfOk result (λ r. length r.2.now ≤ length behind.now) }
+    ensures low { IfOk result (λ r. r.1 ≤ depth + 1) }
+{
+    match type_to(alloc, at_end(used), behind, depth) {
+        Ok((t, height, rest, end)) => Ok((
+            type_nodes::pointer(alloc, token.at, t)?,
+            height + 1,
+            rest,
+            end,
+        )),
+        Err(error) => Err(error),
+    }
+}
+
+/// `distinct T`
+#[cycle(parser)]
+fn distinct<'a>(
+    alloc: Global,
+    used: Use,
+    token: Token,
+    behind: &'a [Token],
+    depth: u8,
+) -> Result<(Type, u16, &'a [Token], End), Stop>
+    ensures exact { token.kind ≡ kind.Distinct → ExactAs used (one (g.constructed used)) nothing_continues (suc depth) (token ∷ behind.now) (seen_to type result) }
+    ensures shorter { IfOk result (λ r. length r.2.now ≤ length behind.now) }
+    ensures low { IfOk result (λ r. r.1 ≤ depth + 1) }
+{
+    match type_to(alloc, at_end(used), behind, depth) {
+        Ok((t, height, rest, end)) => Ok((
+            type_nodes::distinct(alloc, token.at, t)?,
+            height + 1,
+            rest,
+            end,
+        )),
+        Err(error) => Err(error),
+    }
+}
+
+/// `$T`
+fn dollar(used: Use, token: Token, behind: &[Token]) -> Result<(Type, u16, &[Token], End), Stop>
+    ensures exact { built_form used token ≡ Some built.Dollar → (b : ℕ) → ExactAs used (one (g.constructed used)) nothing_continues (suc b) (token ∷ behind.now) (seen_to type result) }
+    ensures shorter { IfOk result (λ r. length r.2.now ≤ length behind.now) }
+    ensures low { IfOk result (λ r. r.1 ≤ 1) }
+{
+    match expect(behind, TokenKind::Name, true) {
+        Ok((name, rest)) => Ok((type_nodes::dollar(token.at, name), 1, rest, End::Sure)),
+        Err(error) => Err(error),
+    }
+}
+
+/// `#type` and a procedure's type.
+#[cycle(parser)]
+fn word_proc<'a>(
+    alloc: Global,
+    used: Use,
+    token: Token,
+    behind: &'a [Token],
+    depth: u8,
+) -> Result<(Type, u16, &'a [Token], End), Stop>
+    ensures exact { built_form used token ≡ Some built.WordProc → ExactAs used (one (g.constructed used)) nothing_continues (suc depth) (token ∷ behind.now) (seen_to type result) }
+    ensures shorter { IfOk result (λ r. length r.2.now ≤ length behind.now) }
+    ensures low { IfOk result (λ r. r.1 ≤ depth + 1) }
+{
+    let (proc, inner) = match expect(behind, TokenKind::Proc, true) {
+        Ok(found) => found,
+        Err(error) => return Err(error),
+    };
+    match signature(alloc, used, proc, inner, depth) {
+        Ok((s, height, rest, end)) => Ok((
+            type_nodes::procedure(alloc, token.at, s)?,
+            height + 1,
+            rest,
+            end,
+        )),
+        Err(error) => Err(error),
+    }
+}
+
+/// `#soa` and a type with square brackets.
+#[cycle(parser)]
+fn soa<'a>(
+    alloc: Global,
+    used: Use,
+    token: Token,
+    behind: &'a [Token],
+    depth: u8,
+) -> Result<(Type, u16, &'a [Token], End), Stop>
+    ensures exact { built_form used token ≡ Some built.Soa → ExactAs used (one (g.constructed used)) nothing_continues (suc depth) (token ∷ behind.now) (seen_to type result) }
+    ensures shorter { IfOk result (λ r. length r.2.now ≤ length behind.now) }
+    ensures low { IfOk result (λ r. r.1 ≤ depth + 1) }
+{
+    match expect(behind, TokenKind::OpenBracket, true) {
+        Ok((_open, inner)) => array(alloc, used, Shape::Soa, token.at, inner, depth),
+        Err(error) => Err(error),
+    }
+}

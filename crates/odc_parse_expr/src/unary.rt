@@ -1,0 +1,91 @@
+//! Operators before their operand.
+
+ghost use Rattle.std.specs.Prelude.{◌≡◌, ◌∷◌, ◌<◌, ◌≤◌, ◌+◌, suc, length, IfOk};
+ghost use Rattle.odc_syntax.specs.Grammar as g;
+ghost use Rattle.odc_syntax.specs.View.{expr};
+ghost use Rattle.odc_syntax.specs.declared.token.TokenKind.TheVariants as kind;
+ghost use Rattle.odc_parse_base.specs.Exact.{Exact, one};
+ghost use Rattle.odc_parse_base.specs.Read.{seen};
+ghost use Rattle.odc_parse_base.specs.Sets.{starts_suffix};
+
+use crate::postfix::postfix;
+use crate::types::ty;
+use odc_nodes::nodes;
+use odc_parse_base::operators::later;
+use odc_parse_base::stop::Stop;
+use odc_parse_base::tokens::{expect, first, within};
+use odc_parse_base::unary::{UnaryForm, unary_form};
+use odc_syntax::grammar::{Mode, Use};
+use odc_syntax::token::{Token, TokenKind};
+use odc_syntax::tree::Expr;
+use odc_text::place::Place;
+use std::alloc::Global;
+
+/// An operand with operators before it and suffixes behind it.
+#[cycle(parser)]
+pub fn unary<'a>(
+    alloc: Global,
+    mode: Mode,
+    tokens: &'a [Token],
+    depth: u8,
+) -> Result<(Expr, u16, &'a [Token]), Stop>
+    ensures exact { Exact (one (g.unary mode)) (starts_suffix mode) depth tokens.now (seen expr result) }
+    ensures shorter { IfOk result (λ r. length r.2.now < length tokens.now) }
+    ensures low { IfOk result (λ r. r.1 ≤ depth + 1) }
+{
+    let (token, behind) = match first(tokens) {
+        Some(found) => found,
+        None => return Err(Stop::Syntax(0)),
+    };
+    match unary_form(token.kind) {
+        UnaryForm::Operand => postfix(alloc, mode, tokens, depth),
+        UnaryForm::Sign(op) => {
+            if depth == 0 {
+                return Err(Stop::Deep(behind.len()));
+            }
+            match unary(alloc, later(mode), behind, depth - 1) {
+                Ok((e, height, rest)) => {
+                    Ok((nodes::unary(alloc, token.at, op, e)?, height + 1, rest))
+                }
+                Err(error) => Err(error),
+            }
+        }
+        UnaryForm::Cast => {
+            if depth == 0 {
+                return Err(Stop::Deep(behind.len()));
+            }
+            cast(alloc, mode, token, behind, depth - 1)
+        }
+    }
+}
+
+/// An operand behind `cast` and a type in parentheses, whose parts may have this depth.
+#[cycle(parser)]
+fn cast<'a>(
+    alloc: Global,
+    mode: Mode,
+    token: Token,
+    behind: &'a [Token],
+    depth: u8,
+) -> Result<(Expr, u16, &'a [Token]), Stop>
+    ensures exact { token.kind ≡ kind.Cast → Exact (one (g.unary mode)) (starts_suffix mode) (suc depth) (token ∷ behind.now) (seen expr result) }
+    ensures shorter { IfOk result (λ r. length r.2.now ≤ length behind.now) }
+    ensures low { IfOk result (λ r. r.1 ≤ depth + 2) }
+{
+    let (_open, inner) = match expect(behind, TokenKind::OpenParen, true) {
+        Ok(found) => found,
+        Err(error) => return Err(error),
+    };
+    let (t, height, after) = match ty(alloc, Use::Plain, inner, depth) {
+        Ok(read) => read,
+        Err(error) => return Err(error),
+    };
+    let (_close, last) = match expect(after, TokenKind::CloseParen, within(height, depth)) {
+        Ok(found) => found,
+        Err(error) => return Err(nodes::discard_type(t, error)),
+    };
+    match unary(alloc, later(mode), last, depth) {
+        Ok((e, n, rest)) => Ok((nodes::cast(alloc, token.at, t, e)?, height.max(n) + 1, rest)),
+        Err(error) => Err(nodes::discard_type(t, error)),
+    }
+}
