@@ -4,25 +4,12 @@
 # Prints the least of five times, and fails where the text is no file or takes a second or more.
 set -eu
 cd "$(dirname "$0")/.."
-[ $# -gt 0 ] || set -- bench/texts/runtime.odin bench/texts/mem.odin
-texts=()
-for text in "$@"; do texts+=("$(realpath "$text")"); done
-work=$(mktemp -d)
-trap 'rm -rf "$work"' EXIT
+. bench/source_texts.sh
 echo 'package texts' >"$work/text"
 while [ "$(stat -c %s "$work/text")" -lt $((1 << 20)) ]; do
     for text in "${texts[@]}"; do sed '/^package /d' "$text" >>"$work/text"; done
 done
-cd crates/parse_bench
-rt run parse_bench <"$work/text" >"$work/first"
-best=
-for _ in 1 2 3 4 5; do
-    begun=$(date +%s%N)
-    out/parse_bench <"$work/text" >"$work/said"
-    took=$(($(date +%s%N) - begun))
-    [ -n "$best" ] && [ "$best" -le "$took" ] || best=$took
-done
-cat "$work/said"
+time_five parse_bench
 grep -q '^[0-9]* tokens, [0-9]* declarations$' "$work/said" || { echo "the text is no file" >&2; exit 1; }
 size=$(stat -c %s "$work/text")
 echo "$size bytes in $((best / 1000)) microseconds"
