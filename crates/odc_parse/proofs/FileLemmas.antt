@@ -9,27 +9,26 @@ use Rattle.odc_syntax.specs.declared.token.Token.{Token}
 use Rattle.odc_syntax.specs.declared.token.TokenKind.{TokenKind}
 use Rattle.odc_syntax.specs.declared.token.TokenKind.TheVariants as kind
 use Rattle.odc_syntax.specs.declared.grammar.Mode.TheVariants.{Free}
-use Rattle.odc_syntax.specs.declared.tree.Decl.{Decl}
-use Rattle.odc_syntax.specs.Tree.{Decls}
+use Rattle.odc_syntax.specs.Tree.{Decl, Decls}
 use Rattle.odc_syntax.specs.Tree as tree
 use Rattle.odc_syntax.specs.View.{decl, decls}
 use Rattle.odc_syntax.specs.Grammar.{Sym, Rule}
 use Rattle.odc_syntax.specs.Grammar as g
 use Rattle.odc_syntax.specs.Derives.{Reach, here, write, StartsWithout}
-use Rattle.odc_parse_base.specs.Refused.{NoneRefused}
-use Rattle.odc_parse_base.specs.declared.stop.Stop.{Stop}
-use Rattle.odc_parse_base.specs.declared.stop.Stop.TheVariants as stop
-use Rattle.odc_parse_base.specs.declared.error.ParseError.{ParseError}
-use Rattle.odc_parse_base.specs.declared.error.ParseError.TheVariants.{Fault, Memory}
-use Rattle.odc_parse_base.specs.Exact.{size, Clear, Part, one, Remains, then_, token, Exact, Answer, Found, Yes}
-use Rattle.odc_parse_base.specs.Read.{refused, NotExpected}
-use Rattle.odc_parse_base.specs.StatementSets.{continues_declaration}
-use Rattle.odc_parse_base.proofs.Opening.{StartsWith, reach_opens}
-use Rattle.odc_parse_base.proofs.Reaching.{along, behind_part}
-use Rattle.odc_parse_base.proofs.Leading.{same_depth, Pending, Led}
-use Rattle.odc_parse_base.proofs.Answering.{led_start, led_rest, led_rest_refused, token_read, token_refused, answer_is}
-use Rattle.odc_parse_base.proofs.Samples as sample
-use Rattle.odc_parse_base.specs.Law.{place_of}
+use Rattle.odc_lookahead.specs.Refused.{NoneRefused}
+use Rattle.odc_lookahead.specs.declared.stop.Stop.{Stop}
+use Rattle.odc_lookahead.specs.declared.stop.Stop.TheVariants as stop
+use Rattle.odc_lookahead.specs.declared.error.ParseError.{ParseError}
+use Rattle.odc_lookahead.specs.declared.error.ParseError.TheVariants.{Fault, Memory}
+use Rattle.odc_lookahead.specs.Exact.{size, Clear, Part, one, Remains, then_, token, Exact, Answer, Found, Yes}
+use Rattle.odc_lookahead.specs.Read.{refused, NotExpected}
+use Rattle.odc_lookahead.specs.StatementSets.{continues_declaration}
+use Rattle.odc_lookahead.proofs.reading.Opening.{StartsWith, reach_opens}
+use Rattle.odc_lookahead.proofs.reading.Reaching.{along, behind_part}
+use Rattle.odc_lookahead.proofs.reading.Leading.{same_depth, Pending, Led}
+use Rattle.odc_lookahead.proofs.reading.Answering.{led_start, led_rest, led_rest_refused, token_read, token_refused, answer_is}
+use Rattle.odc_lookahead.proofs.reading.Samples as sample
+use Rattle.odc_lookahead.specs.Law.{place_of}
 use Rattle.odc_parse.specs.File.{file_of, IsFile, NoFile}
 use Rattle.odc_parse.specs.Read.{starts_item, BeginsItem, nothing_follows, ItemRead, imported, declared, Unread, HeadRead}
 use Rattle.odc_parse.proofs.ItemLemmas.{an_import, a_declaration, more_line, first_led, first_is_refused}

@@ -11,19 +11,18 @@ use Rattle.odc_syntax.specs.declared.grammar.Use.TheVariants.{Plain}
 use Rattle.odc_syntax.specs.Grammar.{Sym, Rule, tok, maybe_token}
 use Rattle.odc_syntax.specs.Grammar as g
 use Rattle.odc_syntax.specs.Derives.{Reach, here, read, write, StartsWithout}
-use Rattle.odc_parse_base.specs.declared.stop.Stop.{Stop}
-use Rattle.odc_parse_base.specs.declared.stop.Stop.TheVariants as stop
-use Rattle.odc_parse_base.specs.Exact.{size, Clear, Part, one, ComesAt, Remains, then_, done, token, Exact, Found, Broken, TooDeep}
-use Rattle.odc_parse_base.specs.Read.{refused, NotExpected}
-use Rattle.odc_parse_base.specs.StatementSets.{continues_declaration}
-use Rattle.odc_parse_base.proofs.Opening.{reach_opens}
-use Rattle.odc_parse_base.proofs.Reaching.{along, behind_part, behind_token}
-use Rattle.odc_parse_base.proofs.Leading.{one_deeper, same_depth, Pending, Led, led_part, led_done, first_is, without}
-use Rattle.odc_parse_base.proofs.Answering.{led_start, token_read, token_refused}
-use Rattle.odc_parse_base.proofs.SuffixAnswers.{token_clear}
-use Rattle.odc_parse_base.proofs.SuffixLemmas.{at_rest}
-use Rattle.odc_parse_base.proofs.LawLemmas.{end_clear, at_most}
-use Rattle.odc_parse_base.proofs.Samples as sample
+use Rattle.odc_lookahead.specs.declared.stop.Stop.{Stop}
+use Rattle.odc_lookahead.specs.declared.stop.Stop.TheVariants as stop
+use Rattle.odc_lookahead.specs.Exact.{size, Clear, Part, one, ComesAt, Remains, then_, done, token, Exact, Found, Broken, TooDeep}
+use Rattle.odc_lookahead.specs.Read.{refused, NotExpected}
+use Rattle.odc_lookahead.specs.StatementSets.{continues_declaration}
+use Rattle.odc_lookahead.proofs.reading.Opening.{reach_opens}
+use Rattle.odc_lookahead.proofs.reading.Reaching.{along, behind_part, behind_token}
+use Rattle.odc_lookahead.proofs.reading.Leading.{one_deeper, same_depth, Pending, Led, led_part, led_done, first_is, without, at_rest}
+use Rattle.odc_lookahead.proofs.reading.Answering.{led_start, token_read, token_refused}
+use Rattle.odc_lookahead.proofs.expr.SuffixAnswers.{token_clear}
+use Rattle.odc_lookahead.proofs.faults.LawLemmas.{end_clear, at_most}
+use Rattle.odc_lookahead.proofs.reading.Samples as sample
 use Rattle.odc_parse.specs.Read.{starts_item, BeginsItem, nothing_follows, NameRead, there, missing}
 
 -- imports

@@ -9,10 +9,10 @@ use Rattle.odc_syntax.specs.declared.token.TokenKind.{TokenKind}
 use Rattle.odc_syntax.specs.Tree.{Decls}
 use Rattle.odc_syntax.specs.Grammar.{Sym, tok, said, next, not_next, not_member}
 use Rattle.odc_syntax.specs.Derives.{Reach, here, read, read_said, see, see_not, see_no_member, write, Derives}
-use Rattle.odc_parse_base.specs.Refused.{NoneRefused}
-use Rattle.odc_parse_base.specs.Exact.{size, one, ComesAt, Found, Broken, TooDeep}
-use Rattle.odc_parse_base.specs.Law.{BeginsWith, place_of}
-use Rattle.odc_parse_base.proofs.LawLemmas.{end_clear, from_end, at_most}
+use Rattle.odc_lookahead.specs.Refused.{NoneRefused}
+use Rattle.odc_lookahead.specs.Exact.{size, one, ComesAt, Found, Broken, TooDeep}
+use Rattle.odc_lookahead.specs.Law.{BeginsWith, place_of}
+use Rattle.odc_lookahead.proofs.faults.LawLemmas.{end_clear, from_end, at_most}
 use Rattle.odc_parse.specs.File.{file_of, Begun, front, whole, IsFirstBad, IsFile, IsNoFile}
 use Rattle.odc_parse.specs.File as file
 

@@ -10,10 +10,10 @@ use Rattle.odc_syntax.specs.declared.token.Token.{Token}
 use Rattle.odc_syntax.specs.Tree.{Decls}
 use Rattle.odc_syntax.specs.Grammar.{file}
 use Rattle.odc_syntax.specs.Derives.{Derives}
-use Rattle.odc_parse_base.specs.Refused.{FirstRefused, NoneRefused}
-use Rattle.odc_parse_base.specs.declared.error.ParseError.{ParseError}
-use Rattle.odc_parse_base.specs.declared.error.ParseError.TheVariants.{Fault, Memory}
-use Rattle.odc_parse_base.specs.Law.{Kind, BeginsWith, place_of}
+use Rattle.odc_lookahead.specs.Refused.{FirstRefused, NoneRefused}
+use Rattle.odc_lookahead.specs.declared.error.ParseError.{ParseError}
+use Rattle.odc_lookahead.specs.declared.error.ParseError.TheVariants.{Fault, Memory}
+use Rattle.odc_lookahead.specs.Law.{Kind, BeginsWith, place_of}
 
 -- a file, by its package's name and its declarations
 abbrev pub file_of : Kind (Token × Decls)

@@ -9,16 +9,16 @@ use Rattle.odc_text.specs.declared.place.Place.{Place}
 use Rattle.odc_text.specs.declared.code.Code.TheVariants.{G01, L05}
 use Rattle.odc_syntax.specs.declared.tree.Decl as decl
 use Rattle.odc_syntax.specs.View.{decls}
-use Rattle.odc_parse_base.specs.declared.stop.Stop.{Stop}
-use Rattle.odc_parse_base.specs.declared.stop.Stop.TheVariants as stop
-use Rattle.odc_parse_base.specs.declared.error.ParseError.{ParseError}
-use Rattle.odc_parse_base.specs.declared.error.ParseError.TheVariants.{Fault, Memory}
-use Rattle.odc_parse_base.specs.Law.{place_of}
+use Rattle.odc_lookahead.specs.declared.stop.Stop.{Stop}
+use Rattle.odc_lookahead.specs.declared.stop.Stop.TheVariants as stop
+use Rattle.odc_lookahead.specs.declared.error.ParseError.{ParseError}
+use Rattle.odc_lookahead.specs.declared.error.ParseError.TheVariants.{Fault, Memory}
+use Rattle.odc_lookahead.specs.Law.{place_of}
 use Rattle.odc_syntax.specs.Tree.{Decl, Decls}
 use Rattle.odc_syntax.specs.Grammar.{import_, declaration}
 use Rattle.odc_syntax.specs.Derives.{StartsWithout}
-use Rattle.odc_parse_base.specs.Exact.{Answer, Exact, one}
-use Rattle.odc_parse_base.specs.StatementSets.{continues_declaration}
+use Rattle.odc_lookahead.specs.Exact.{Answer, Exact, one}
+use Rattle.odc_lookahead.specs.StatementSets.{continues_declaration}
 
 -- what an import or a declaration begins with
 abbrev pub starts_item : TokenKind → Bool

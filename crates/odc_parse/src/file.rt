@@ -1,14 +1,14 @@
 //! A file as a part of the grammar.
 
 ghost use Rattle.std.specs.Prelude.{◌≤◌, IfOk, IfErr};
-ghost use Rattle.odc_parse_base.specs.Exact.{Exact, one};
-ghost use Rattle.odc_parse_base.specs.Read.{seen, refused};
+ghost use Rattle.odc_lookahead.specs.Exact.{Exact, one};
+ghost use Rattle.odc_lookahead.specs.Read.{seen, refused};
 ghost use Rattle.odc_parse.specs.File.{file_of};
 ghost use Rattle.odc_parse.specs.Read.{file_view, starts_item, HeadRead};
 
 use crate::items::items;
-use odc_parse_base::stop::Stop;
-use odc_parse_base::tokens::expect;
+use odc_lookahead::stop::Stop;
+use odc_lookahead::tokens::expect;
 use odc_syntax::token::{Token, TokenKind};
 use odc_syntax::tree::Decl;
 use std::alloc::Global;

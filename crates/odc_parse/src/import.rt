@@ -4,17 +4,19 @@ ghost use Rattle.std.specs.Prelude.{◌≡◌, ◌<◌, ◌≤◌, length, IfOk}
 ghost use Rattle.odc_syntax.specs.Grammar as g;
 ghost use Rattle.odc_syntax.specs.Tree as tree;
 ghost use Rattle.odc_syntax.specs.View.{decl};
-ghost use Rattle.odc_parse_base.specs.Exact.{Exact, one};
-ghost use Rattle.odc_parse_base.specs.Read.{seen};
+ghost use Rattle.odc_lookahead.specs.Exact.{Exact, one};
+ghost use Rattle.odc_lookahead.specs.Read.{seen};
 ghost use Rattle.odc_parse.specs.Read.{NameRead, nothing_follows};
 
-use odc_parse_base::stop::Stop;
-use odc_parse_base::tokens::{expect, strip};
+use odc_lookahead::stop::Stop;
+use odc_lookahead::tokens::{expect, strip};
 use odc_syntax::token::{Token, TokenKind};
 use odc_syntax::tree::{Decl, DeclKind};
+use odc_tree::node::decl_node;
+use std::alloc::{AllocError, Global};
 
 /// An import at the front of the tokens, its depth, and the tokens behind it.
-pub fn import(tokens: &[Token]) -> Result<(Decl, u16, &[Token]), Stop>
+pub fn import(alloc: Global, tokens: &[Token]) -> Result<(Decl, u16, &[Token]), Stop>
     ensures exact { Exact (one g.import_) nothing_follows 200 tokens.now (seen decl result) }
     ensures shorter { IfOk result (λ r. length r.2.now < length tokens.now) }
     ensures low { IfOk result (λ r. r.1 ≤ 1) }
@@ -25,7 +27,7 @@ pub fn import(tokens: &[Token]) -> Result<(Decl, u16, &[Token]), Stop>
     };
     let (name, behind_name) = optional_name(behind);
     match expect(behind_name, TokenKind::Text, true) {
-        Ok((path, rest)) => Ok((import_of(word, name, path), 1, rest)),
+        Ok((path, rest)) => Ok((import_of(alloc, word, name, path)?, 1, rest)),
         Err(stop) => Err(stop),
     }
 }
@@ -42,11 +44,13 @@ fn optional_name(tokens: &[Token]) -> (Option<Token>, &[Token])
 }
 
 /// The declaration of an import.
-fn import_of(word: Token, name: Option<Token>, path: Token) -> Decl
-    ensures { decl result ≡ tree.decl word.at (tree.import name path) }
+fn import_of(
+    alloc: Global,
+    word: Token,
+    name: Option<Token>,
+    path: Token,
+) -> Result<Decl, AllocError>
+    ensures { IfOk result (λ d. d ≡ tree.decl word.at (tree.import name path)) }
 {
-    Decl {
-        at: word.at,
-        kind: DeclKind::Import(name, path),
-    }
+    decl_node(alloc, word.at, DeclKind::Import(name, path))
 }

@@ -5,18 +5,19 @@ ghost use Rattle.odc_syntax.specs.declared.token.TokenKind.TheVariants as kind;
 ghost use Rattle.odc_syntax.specs.Derives.{StartsWithout};
 ghost use Rattle.odc_syntax.specs.Grammar as g;
 ghost use Rattle.odc_syntax.specs.View.{decl, decls};
-ghost use Rattle.odc_parse_base.specs.Exact.{Exact, one};
-ghost use Rattle.odc_parse_base.specs.Read.{seen, StartsWith};
+ghost use Rattle.odc_lookahead.specs.Exact.{Exact, one};
+ghost use Rattle.odc_lookahead.specs.Read.{seen, StartsWith};
 ghost use Rattle.odc_parse.specs.Read.{BeginsItem, ItemRead, list_view, starts_item};
 
 use crate::import::import;
-use odc_nodes::{file_nodes, stmt_nodes};
-use odc_parse_base::stop::Stop;
-use odc_parse_base::tokens::{expect, first, same_kind, within};
+use odc_lookahead::stop::Stop;
+use odc_lookahead::tokens::{expect, first, same_kind, within};
 use odc_parse_expr::declaration::declaration;
 use odc_syntax::grammar::Mode;
 use odc_syntax::token::{Token, TokenKind};
 use odc_syntax::tree::Decl;
+use odc_tree::discard::{discard_decl, discard_decls};
+use odc_tree::list::push_decl;
 use std::alloc::Global;
 
 /// The imports and declarations at the front of the tokens, each with its semicolon.
@@ -30,16 +31,13 @@ pub fn items<'a>(alloc: Global, tokens: &'a [Token]) -> Result<(Vec<Decl>, u16, 
     'list: while begins_item(rest) {
         let (one, depth, behind) = match item(alloc, rest) {
             Ok(read) => read,
-            Err(stop) => return Err(file_nodes::discard_decls(list, stop)),
+            Err(stop) => return Err(discard_decls(list, stop)),
         };
         let after = match expect(behind, TokenKind::Semicolon, within(depth, 200)) {
             Ok((_semicolon, after)) => after,
-            Err(stop) => return Err(file_nodes::discard_decls(
-                list,
-                stmt_nodes::discard_decl(one, stop),
-            )),
+            Err(stop) => return Err(discard_decls(list, discard_decl(one, stop))),
         };
-        list = file_nodes::push_decl(list, one)?;
+        list = push_decl(list, one)?;
         height = height.max(depth);
         rest = after;
     }
@@ -72,7 +70,7 @@ fn item<'a>(alloc: Global, tokens: &'a [Token]) -> Result<(Decl, u16, &'a [Token
     ensures shorter { IfOk result (λ r. length r.2.now < length tokens.now) }
 {
     if begins_import(tokens) {
-        import(tokens)
+        import(alloc, tokens)
     } else {
         declaration(alloc, Mode::Free, tokens, 200)
     }

@@ -8,5 +8,3 @@ mod file;
 mod import;
 mod items;
 pub mod parse;
-#[cfg(test)]
-mod tests;

@@ -3,18 +3,18 @@
 ghost use Rattle.std.specs.Prelude.{◌≡◌, length, IfOk, IfErr};
 ghost use Rattle.odc_syntax.specs.View.{decls};
 ghost use Rattle.odc_parse.specs.File.{IsFile, NoFile};
-ghost use Rattle.odc_parse_base.specs.Refused.{NoneRefused};
+ghost use Rattle.odc_lookahead.specs.Refused.{NoneRefused};
 ghost use Rattle.odc_parse.specs.Read.{Unread};
 
 use crate::file::file;
-use odc_nodes::file_nodes;
-use odc_parse_base::blame::place_of;
-use odc_parse_base::error::ParseError;
-use odc_parse_base::refused::first_refused;
-use odc_parse_base::stop::Stop;
+use odc_lookahead::blame::place_of;
+use odc_lookahead::error::ParseError;
+use odc_lookahead::refused::first_refused;
+use odc_lookahead::stop::Stop;
 use odc_syntax::token::Tokens;
 use odc_syntax::tree::FileTree;
 use odc_text::code::{Code, Fault};
+use odc_tree::discard::discard_decls;
 use std::alloc::Global;
 
 /// The tree of the tokens of a file. A refused form comes before all else. Otherwise the fault stands at
@@ -52,7 +52,7 @@ fn clean_file(alloc: Global, t: &Tokens) -> Result<FileTree, ParseError>
             end: t.end,
         })
     } else {
-        Err(file_nodes::discard_decls(list, unread(t, Stop::Syntax(rest.len()))))
+        Err(discard_decls(list, unread(t, Stop::Syntax(rest.len()))))
     }
 }
 

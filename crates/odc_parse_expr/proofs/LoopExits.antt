@@ -1,6 +1,5 @@
 -- The exits of the functions on loops: bodies, variables, what stands behind the first `;`.
-use Rattle.std.proofs.Common.{◌≡◌, ℕ, suc, ◌*◌, ◌<◌, ◌≤◌, max, Bool, true, false, List, [], ◌∷◌, ◌++◌, length, refl, sym, ◌∙◌, ap, subst, arith, ◌⊎◌, inl, inr}
-use Rattle.odc_text.specs.declared.place.Place.{Place}
+use Rattle.std.proofs.Common.{◌≡◌, ℕ, ◌<◌, ◌≤◌, max, Bool, true, false, List, ◌∷◌, ◌++◌, length, refl, sym, ap, subst, arith, ◌⊎◌, inl, inr}
 use Rattle.odc_syntax.specs.declared.token.Token.{Token}
 use Rattle.odc_syntax.specs.declared.token.TokenKind.{TokenKind}
 use Rattle.odc_syntax.specs.declared.token.TokenKind.TheVariants as kind
@@ -11,28 +10,28 @@ use Rattle.odc_syntax.specs.Tree.{Expr, MaybeExpr, Stmt, MaybeStmt, Stmts, Span}
 use Rattle.odc_syntax.specs.Tree as tree
 use Rattle.odc_syntax.specs.Grammar.{Sym, Labelled}
 use Rattle.odc_syntax.specs.Grammar as g
-use Rattle.odc_syntax.specs.Derives.{Reach, here, StartsWithout}
-use Rattle.odc_parse_base.specs.declared.stop.Stop.{Stop}
-use Rattle.odc_parse_base.specs.declared.stop.Stop.TheVariants as stop
-use Rattle.odc_parse_expr.specs.Blocks.{BodyStarts, BodyOver}
-use Rattle.odc_parse_base.specs.Exact.{size, Clear, Part, one, Exact, Found, Broken, TooDeep}
+use Rattle.odc_syntax.specs.Derives.{here, StartsWithout}
+use Rattle.odc_lookahead.specs.declared.stop.Stop.{Stop}
+use Rattle.odc_lookahead.specs.declared.stop.Stop.TheVariants as stop
+use Rattle.odc_parse_expr.specs.Blocks.{BodyOver}
+use Rattle.odc_lookahead.specs.Exact.{Part, one, Exact, Found, Broken, TooDeep}
 use Rattle.odc_parse_expr.specs.LoopForms.{BodyFirst, BeginsBody, ConditionRead, none, some}
-use Rattle.odc_parse_base.specs.LoopStarts.{Ranged}
-use Rattle.odc_parse_base.specs.Loops.{Steps, steps_line, after_line, stepped, looped}
-use Rattle.odc_parse_base.specs.Read.{refused, NotExpected}
-use Rattle.odc_parse_base.specs.Sets.{continues}
-use Rattle.odc_parse_base.specs.Statements.{labelled_part}
-use Rattle.odc_parse_base.specs.StatementSets.{continues_simple, continues_statement}
-use Rattle.odc_parse_base.specs.SwitchSets.{continues_span}
-use Rattle.odc_parse_base.proofs.Opening.{reach_opens, First, is_body}
-use Rattle.odc_parse_base.proofs.Leading.{Rises, same_depth, Pending, Led}
-use Rattle.odc_parse_base.proofs.Answering.{led_rest, led_rest_refused, led_stuck, answer_is}
-use Rattle.odc_parse_base.proofs.LoopLemmas.{for_at, for_ever_answer, for_ever_refused, for_stepped}
-use Rattle.odc_parse_base.proofs.StepLemmas.{semicolon_line, steps_condition_refused, steps_condition, steps_no_condition, steps_unclosed, steps_closed}
-use Rattle.odc_parse_base.proofs.AfterLemmas.{body_over, after_refused, after_read, after_none}
-use Rattle.odc_parse_base.proofs.LoopClauses.{no_body}
-use Rattle.odc_parse_base.proofs.RangeLemmas.{OverAt, over_at, over_span_refused, OverRead, over_read}
-use Rattle.odc_parse_base.proofs.Samples as sample
+use Rattle.odc_lookahead.specs.LoopStarts.{Ranged}
+use Rattle.odc_lookahead.specs.Loops.{Steps, steps_line, after_line}
+use Rattle.odc_lookahead.specs.Read.{refused, NotExpected}
+use Rattle.odc_lookahead.specs.Sets.{continues}
+use Rattle.odc_lookahead.specs.Statements.{labelled_part}
+use Rattle.odc_lookahead.specs.StatementSets.{continues_simple, continues_statement}
+use Rattle.odc_lookahead.specs.SwitchSets.{continues_span}
+use Rattle.odc_lookahead.proofs.reading.Opening.{reach_opens, is_body}
+use Rattle.odc_lookahead.proofs.reading.Leading.{same_depth, Led}
+use Rattle.odc_lookahead.proofs.reading.Answering.{led_rest, led_rest_refused, led_stuck, answer_is}
+use Rattle.odc_lookahead.proofs.loops.LoopLemmas.{for_at, for_ever_answer, for_ever_refused, for_stepped}
+use Rattle.odc_lookahead.proofs.loops.StepLemmas.{semicolon_line, steps_condition_refused, steps_condition, steps_no_condition, steps_unclosed, steps_closed}
+use Rattle.odc_lookahead.proofs.loops.AfterLemmas.{body_over, after_refused, after_read, after_none}
+use Rattle.odc_lookahead.proofs.loops.LoopClauses.{no_body}
+use Rattle.odc_lookahead.proofs.loops.RangeLemmas.{OverAt, over_at, over_span_refused, OverRead, over_read}
+use Rattle.odc_lookahead.proofs.reading.Samples as sample
 
 -- a body stands first
 body_kind : (k : TokenKind) → (k ≡ kind.OpenBrace) ⊎ (k ≡ kind.Do) → is_body k ≡ true

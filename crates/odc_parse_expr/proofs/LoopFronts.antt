@@ -10,20 +10,19 @@ use Rattle.odc_syntax.specs.Derives.{StartsWithout}
 use Rattle.odc_syntax.specs.Grammar as g
 use Rattle.odc_parse_expr.specs.declared.loops.Front.{Front}
 use Rattle.odc_parse_expr.specs.declared.loops.Front.TheVariants as front
-use Rattle.odc_parse_base.specs.declared.stop.Stop.{Stop}
-use Rattle.odc_parse_base.specs.declared.stop.Stop.TheVariants as stop
-use Rattle.odc_parse_base.specs.Exact.{one, Exact}
-use Rattle.odc_parse_expr.specs.LoopForms.{BodyFirst, BeginsBody, FrontIs, LoopStart}
-use Rattle.odc_parse_base.specs.LoopStarts as start
-use Rattle.odc_parse_base.specs.LoopStarts.{Signed, plain, signed, Ranged, OneName, MoreNames, Unranged, asks, cost, list_cost, OneOver, MoreOver, NameBefore, NoNameBefore, EndsOne, goes_one}
-use Rattle.odc_parse_base.specs.Read.{refused}
-use Rattle.odc_parse_base.specs.RunBounds.{LastOver}
-use Rattle.odc_parse_base.specs.RunBounds as bound
-use Rattle.odc_parse_base.specs.Sets.{starts_suffix, continues}
-use Rattle.odc_parse_base.specs.Statements.{labelled_part}
-use Rattle.odc_parse_base.specs.StatementSets.{continues_statement}
-use Rattle.odc_parse_base.proofs.LoopLemmas.{for_at}
-use Rattle.odc_parse_base.proofs.LoopBounds as low
+use Rattle.odc_lookahead.specs.declared.stop.Stop.{Stop}
+use Rattle.odc_lookahead.specs.declared.stop.Stop.TheVariants as stop
+use Rattle.odc_lookahead.specs.Exact.{one, Exact}
+use Rattle.odc_parse_expr.specs.LoopForms.{BodyFirst, FrontIs, LoopStart}
+use Rattle.odc_lookahead.specs.LoopStarts as start
+use Rattle.odc_lookahead.specs.LoopStarts.{Signed, plain, signed, Ranged, OneName, MoreNames, Unranged, asks, cost, list_cost, OneOver, MoreOver, NameBefore, NoNameBefore, EndsOne, goes_one}
+use Rattle.odc_lookahead.specs.Read.{refused}
+use Rattle.odc_lookahead.specs.RunBounds.{LastOver}
+use Rattle.odc_lookahead.specs.Sets.{starts_suffix, continues}
+use Rattle.odc_lookahead.specs.Statements.{labelled_part}
+use Rattle.odc_lookahead.specs.StatementSets.{continues_statement}
+use Rattle.odc_lookahead.proofs.loops.LoopLemmas.{for_at}
+use Rattle.odc_lookahead.proofs.loops.LoopBounds as low
 
 -- a loop that is neither a body nor `;`
 pub record Clauses (t : Token) (ts : List Token) : Type 0 where

@@ -1,9 +1,7 @@
 -- The exits of the functions on the clauses of loops.
-use Rattle.std.proofs.Common.{◌≡◌, ℕ, suc, ◌*◌, ◌<◌, ◌≤◌, max, Bool, true, false, List, [], ◌∷◌, ◌++◌, length, refl, sym, ◌∙◌, ap, subst, arith, ◌⊎◌, inl, inr}
+use Rattle.std.proofs.Common.{◌≡◌, ℕ, suc, ◌*◌, ◌<◌, ◌≤◌, max, Bool, true, false, List, [], ◌∷◌, ◌++◌, length, refl, sym, ◌∙◌, ap, subst, arith}
 use Rattle.std.proofs.Math.Nat.{lt_of_not-le}
-use Rattle.odc_text.specs.declared.place.Place.{Place}
 use Rattle.odc_syntax.specs.declared.token.Token.{Token}
-use Rattle.odc_syntax.specs.declared.token.TokenKind.{TokenKind}
 use Rattle.odc_syntax.specs.declared.token.TokenKind.TheVariants as kind
 use Rattle.odc_syntax.specs.declared.grammar.Mode.TheVariants.{Header}
 use Rattle.odc_syntax.specs.declared.grammar.Level.TheVariants.{Or}
@@ -12,45 +10,44 @@ use Rattle.odc_syntax.specs.Tree as tree
 use Rattle.odc_syntax.specs.Grammar.{Sym, tok, Labelled, exprs_, exprs_more, simple_eval}
 use Rattle.odc_syntax.specs.Grammar as g
 use Rattle.odc_syntax.specs.Derives.{Reach, here, read, write, StartsWithout}
-use Rattle.odc_parse_base.specs.declared.stop.Stop.{Stop}
-use Rattle.odc_parse_base.specs.declared.stop.Stop.TheVariants as stop
+use Rattle.odc_lookahead.specs.declared.stop.Stop.{Stop}
+use Rattle.odc_lookahead.specs.declared.stop.Stop.TheVariants as stop
 use Rattle.odc_parse_expr.specs.Blocks.{BodyOver}
-use Rattle.odc_parse_base.specs.Clauses.{Clause, declared, assigned, alone, clause_then}
-use Rattle.odc_parse_base.specs.Exact.{size, Clear, Part, one, then_, token, Exact, Answer, Yes, Found, TooDeep}
-use Rattle.odc_parse_base.specs.Headers as header
-use Rattle.odc_parse_base.specs.Headers.{GoesOn, ClosedFrom}
+use Rattle.odc_lookahead.specs.Clauses.{Clause, declared, assigned, alone, clause_then}
+use Rattle.odc_lookahead.specs.Exact.{size, Clear, Part, one, then_, token, Exact, Answer, Yes, Found, TooDeep}
+use Rattle.odc_lookahead.specs.Headers as header
+use Rattle.odc_lookahead.specs.Headers.{GoesOn, ClosedFrom}
 use Rattle.odc_parse_expr.specs.LoopForms.{LoopStart, LoopClosed, from, signs, LoopCondition, closed, evaluated}
-use Rattle.odc_parse_base.specs.LoopStarts as start
-use Rattle.odc_parse_base.specs.LoopStarts.{Signed, plain, signed, MoreNames, Unranged, asks, cost, list_cost}
-use Rattle.odc_parse_base.specs.Loops.{Steps, body_alone, steps_line, clause, looped, clause_loop}
-use Rattle.odc_parse_base.specs.Read.{refused, NotExpected}
-use Rattle.odc_parse_base.specs.RunBounds.{RunOver}
-use Rattle.odc_parse_base.specs.Runs.{Declares}
-use Rattle.odc_parse_base.specs.Runs as runs
-use Rattle.odc_parse_base.specs.Sets.{continues}
-use Rattle.odc_parse_base.specs.Statements.{labelled_part}
-use Rattle.odc_parse_base.specs.StatementSets.{continues_simple, continues_declaration, continues_statement, continues_head, continues_clause, EndsClause}
-use Rattle.odc_parse_base.proofs.Opening.{StartsWith}
-use Rattle.odc_parse_base.proofs.Reaching.{along}
-use Rattle.odc_parse_base.proofs.Leading.{same_depth, Led}
-use Rattle.odc_parse_base.proofs.Answering.{led_rest, led_rest_refused, token_refused, token_read, answer_is, Stepped}
-use Rattle.odc_parse_base.proofs.SuffixAnswers.{token_clear}
-use Rattle.odc_parse_base.proofs.RunLemmas.{reads_name, not_declared}
-use Rattle.odc_parse_base.proofs.HeadLemmas.{head_clear, declaration_limit, simple_limit, listed_run}
-use Rattle.odc_parse_base.proofs.HeaderFacts.{single_at, listed_at, expression_at}
-use Rattle.odc_parse_base.proofs.HeadAnswers.{semicolon_found}
-use Rattle.odc_parse_base.proofs.HeadExpressions.{goes_clause}
-use Rattle.odc_parse_base.proofs.ClauseLemmas.{clause_declaration_refused, clause_declared, clause_listed_refused, clause_listed, clause_alone}
-use Rattle.odc_parse_base.proofs.ClauseExpressions.{clause_single_refused, clause_assigned_refused, clause_assigned, clause_evaluated, clause_over}
-use Rattle.odc_parse_base.proofs.RunBounds.{clause_run_over, run_limit}
-use Rattle.odc_parse_base.proofs.Deciding.{limit, stop_limit, beyond, Leads, leads_less, leads_part, leads_part_refused, leads_led}
-use Rattle.odc_parse_base.proofs.Within.{leads_within}
-use Rattle.odc_parse_base.proofs.LoopLemmas.{for_at}
-use Rattle.odc_parse_base.proofs.LoopBodies.{body_heads}
-use Rattle.odc_parse_base.proofs.FrontLemmas.{value_of, front_found, front_reads}
-use Rattle.odc_parse_base.proofs.LoopClauses.{ClausesLed, clauses_led, clause_node, start_not, run_far, declares_far, single_limit, unranged_short}
+use Rattle.odc_lookahead.specs.LoopStarts as start
+use Rattle.odc_lookahead.specs.LoopStarts.{Signed, plain, signed, MoreNames, Unranged, asks, cost, list_cost}
+use Rattle.odc_lookahead.specs.Loops.{Steps, body_alone, steps_line}
+use Rattle.odc_lookahead.specs.Read.{refused, NotExpected}
+use Rattle.odc_lookahead.specs.RunBounds.{RunOver}
+use Rattle.odc_lookahead.specs.Runs.{Declares}
+use Rattle.odc_lookahead.specs.Runs as runs
+use Rattle.odc_lookahead.specs.Sets.{continues}
+use Rattle.odc_lookahead.specs.Statements.{labelled_part}
+use Rattle.odc_lookahead.specs.StatementSets.{continues_simple, continues_declaration, continues_statement, continues_head, continues_clause, EndsClause}
+use Rattle.odc_lookahead.proofs.reading.Opening.{StartsWith}
+use Rattle.odc_lookahead.proofs.reading.Reaching.{along}
+use Rattle.odc_lookahead.proofs.reading.Leading.{same_depth, Led}
+use Rattle.odc_lookahead.proofs.reading.Answering.{led_rest, led_rest_refused, token_refused, token_read, answer_is, Stepped}
+use Rattle.odc_lookahead.proofs.expr.SuffixAnswers.{token_clear}
+use Rattle.odc_lookahead.proofs.stmts.RunLemmas.{reads_name, not_declared}
+use Rattle.odc_lookahead.proofs.headers.HeadLemmas.{head_clear, listed_run}
+use Rattle.odc_lookahead.proofs.headers.HeaderFacts.{single_at, listed_at, expression_at}
+use Rattle.odc_lookahead.proofs.headers.HeadAnswers.{semicolon_found}
+use Rattle.odc_lookahead.proofs.headers.ClauseLemmas.{clause_declaration_refused, clause_declared, clause_listed_refused, clause_listed, clause_alone}
+use Rattle.odc_lookahead.proofs.headers.ClauseExpressions.{clause_single_refused, clause_assigned_refused, clause_assigned, clause_evaluated, clause_over}
+use Rattle.odc_lookahead.proofs.headers.RunBounds.{clause_run_over, run_limit}
+use Rattle.odc_lookahead.proofs.reading.Deciding.{limit, stop_limit, beyond, Leads, leads_less, leads_part, leads_part_refused, leads_led}
+use Rattle.odc_lookahead.proofs.reading.Within.{leads_within}
+use Rattle.odc_lookahead.proofs.loops.LoopLemmas.{for_at}
+use Rattle.odc_lookahead.proofs.loops.LoopBodies.{body_heads}
+use Rattle.odc_lookahead.proofs.headers.FrontLemmas.{value_of, front_found, front_reads}
+use Rattle.odc_lookahead.proofs.loops.LoopClauses.{ClausesLed, clauses_led, clause_node, run_far, declares_far, single_limit}
 use Rattle.odc_parse_expr.proofs.LoopExits.{body_is_over}
-use Rattle.odc_parse_base.proofs.Samples as sample
+use Rattle.odc_lookahead.proofs.reading.Samples as sample
 
 -- where a loop begins
 pub start_led : {t : Token} {ts place : List Token} (b : ℕ) → LoopStart t ts place → ClausesLed b (t ∷ ts) t.at ts place

@@ -11,20 +11,20 @@ use Rattle.odc_syntax.specs.Tree.{Expr, Header, Stmt, stmt, StmtKind, Stmts}
 use Rattle.odc_syntax.specs.Tree as tree
 use Rattle.odc_syntax.specs.Grammar as g
 use Rattle.odc_syntax.specs.Derives.{StartsWithout}
-use Rattle.odc_parse_base.specs.declared.stop.Stop.{Stop}
-use Rattle.odc_parse_base.specs.declared.stop.Stop.TheVariants as stop
+use Rattle.odc_lookahead.specs.declared.stop.Stop.{Stop}
+use Rattle.odc_lookahead.specs.declared.stop.Stop.TheVariants as stop
 use Rattle.odc_parse_expr.specs.Blocks.{BodyOver}
 use Rattle.odc_parse_expr.specs.Conditionals.{IfRead}
-use Rattle.odc_parse_base.specs.Exact.{one, then_, done, Exact, Answer, Yes, Syntax, Deep, NoMemory, Broken, TooDeep}
-use Rattle.odc_parse_base.specs.Read.{refused}
-use Rattle.odc_parse_base.specs.Runs.{Undeclared}
-use Rattle.odc_parse_base.specs.Sets.{nothing_continues}
-use Rattle.odc_parse_base.specs.StatementSets.{continues_simple, continues_statement}
-use Rattle.odc_parse_base.proofs.Opening.{reach_opens, First, is_body, is_brace}
-use Rattle.odc_parse_base.proofs.Answering.{stuck_broken, led_stuck}
-use Rattle.odc_parse_base.proofs.NamedLemmas.{undeclared_answer, undeclared_refused}
-use Rattle.odc_parse_base.proofs.BlockLemmas.{no_body_first}
-use Rattle.odc_parse_base.proofs.IfLemmas.{HeadRead, if_head_read, BodyRead, if_body_read, if_body_over}
+use Rattle.odc_lookahead.specs.Exact.{one, then_, done, Exact, Answer, Yes, Syntax, Deep, NoMemory, Broken, TooDeep}
+use Rattle.odc_lookahead.specs.Read.{refused}
+use Rattle.odc_lookahead.specs.Runs.{Undeclared}
+use Rattle.odc_lookahead.specs.Sets.{nothing_continues}
+use Rattle.odc_lookahead.specs.StatementSets.{continues_simple, continues_statement}
+use Rattle.odc_lookahead.proofs.reading.Opening.{reach_opens, First, is_body, is_brace}
+use Rattle.odc_lookahead.proofs.reading.Answering.{stuck_broken, led_stuck}
+use Rattle.odc_lookahead.proofs.stmts.NamedLemmas.{undeclared_answer, undeclared_refused}
+use Rattle.odc_lookahead.proofs.stmts.BlockLemmas.{no_body_first}
+use Rattle.odc_lookahead.proofs.headers.IfLemmas.{HeadRead, if_head_read, BodyRead, if_body_read, if_body_over}
 
 -- names that are not declared begin an assignment or expressions
 pub undeclared_exact : (b : ℕ) (ts rest : List Token) (t : Token) (us : List Token) (r : Answer Stmt) → 1 < b → Undeclared ts rest → ts ≡ t ∷ us → t.kind ≡ kind.Name → Exact (one (g.simple Start)) (continues_simple Start) b ts r →

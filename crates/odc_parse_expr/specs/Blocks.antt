@@ -7,8 +7,8 @@ use Rattle.odc_syntax.specs.Derives.{StartsWithout}
 use Rattle.odc_syntax.specs.Tree as tree
 use Rattle.odc_syntax.specs.View.{stmts}
 use Rattle.odc_parse_expr.specs.declared.block.Braced.{Braced}
-use Rattle.odc_parse_base.specs.declared.stop.Stop.{Stop}
-use Rattle.odc_parse_base.specs.declared.stop.Stop.TheVariants as stop
+use Rattle.odc_lookahead.specs.declared.stop.Stop.{Stop}
+use Rattle.odc_lookahead.specs.declared.stop.Stop.TheVariants as stop
 
 abbrev pub braces_of : Braced → tree.Stmts × (Token × Unit {0})
 braces_of b = (stmts b.stmts.items, (b.close, tt))

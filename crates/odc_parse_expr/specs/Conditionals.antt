@@ -5,16 +5,15 @@ use Rattle.odc_syntax.specs.declared.token.Token.{Token}
 use Rattle.odc_syntax.specs.declared.token.TokenKind.TheVariants as kind
 use Rattle.odc_syntax.specs.Grammar as g
 use Rattle.odc_syntax.specs.Tree as tree
-use Rattle.odc_syntax.specs.View.{expr}
+use Rattle.odc_syntax.specs.View.{expr, header_of}
 use Rattle.odc_parse_expr.specs.declared.conditional.Head.{Head}
 use Rattle.odc_parse_expr.specs.declared.runs.NamesEnd.{NamesEnd}
 use Rattle.odc_parse_expr.specs.declared.runs.NamesEnd.TheVariants as names
-use Rattle.odc_nodes.specs.StmtViews.{header_of}
-use Rattle.odc_parse_base.specs.BodyParts.{head_line}
-use Rattle.odc_parse_base.specs.Exact.{Found, one}
-use Rattle.odc_parse_base.specs.Headers.{Single, Listed}
-use Rattle.odc_parse_base.specs.Runs.{Declares}
-use Rattle.odc_parse_base.specs.StatementSets.{continues_statement, continues_head}
+use Rattle.odc_lookahead.specs.BodyParts.{head_line}
+use Rattle.odc_lookahead.specs.Exact.{Found, one}
+use Rattle.odc_lookahead.specs.Headers.{Single, Listed}
+use Rattle.odc_lookahead.specs.Runs.{Declares}
+use Rattle.odc_lookahead.specs.StatementSets.{continues_statement, continues_head}
 
 abbrev pub head_of : Head → tree.Header × (tree.Expr × Unit {0})
 head_of h = (header_of h.header, (expr h.condition, tt))

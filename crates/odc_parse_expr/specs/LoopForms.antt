@@ -8,34 +8,30 @@ use Rattle.odc_syntax.specs.declared.grammar.Level.TheVariants.{Or}
 use Rattle.odc_syntax.specs.Derives.{StartsWithout}
 use Rattle.odc_syntax.specs.Grammar as g
 use Rattle.odc_syntax.specs.Tree as tree
-use Rattle.odc_syntax.specs.View.{expr, stmts}
-use Rattle.odc_nodes.specs.Given.{maybe}
-use Rattle.odc_nodes.specs.LoopViews.{maybe_stmt}
-use Rattle.odc_nodes.specs.StmtViews.{header_of}
-use Rattle.odc_nodes.specs.SwitchViews.{span_of}
+use Rattle.odc_syntax.specs.View.{expr, stmts, maybe_expr, maybe_stmt, header_of, span_of}
 use Rattle.odc_parse_expr.specs.declared.loops.Front.{Front}
 use Rattle.odc_parse_expr.specs.declared.loops.Front.TheVariants as front
 use Rattle.odc_parse_expr.specs.declared.loops.Loop.{Loop}
 use Rattle.odc_parse_expr.specs.declared.loops.Loop.TheVariants as l
 use Rattle.odc_parse_expr.specs.declared.loops.LoopEnd.{LoopEnd}
 use Rattle.odc_parse_expr.specs.declared.loops.LoopSteps.{LoopSteps}
-use Rattle.odc_parse_base.specs.Exact.{Found, Broken, one}
-use Rattle.odc_parse_base.specs.Headers.{ClosedFrom, HeadExpression}
-use Rattle.odc_parse_base.specs.Loops.{Steps}
-use Rattle.odc_parse_base.specs.LoopStarts.{Signed, Ranged, OneName, MoreNames, Unranged, asks}
-use Rattle.odc_parse_base.specs.Sets.{continues}
-use Rattle.odc_parse_base.specs.StatementSets.{continues_simple}
+use Rattle.odc_lookahead.specs.Exact.{Found, Broken, one}
+use Rattle.odc_lookahead.specs.Headers.{ClosedFrom, HeadExpression}
+use Rattle.odc_lookahead.specs.Loops.{Steps}
+use Rattle.odc_lookahead.specs.LoopStarts.{Signed, Ranged, OneName, MoreNames, Unranged, asks}
+use Rattle.odc_lookahead.specs.Sets.{continues}
+use Rattle.odc_lookahead.specs.StatementSets.{continues_simple}
 
 abbrev pub end_of : LoopEnd → tree.MaybeStmt × tree.Stmts
 end_of e = (maybe_stmt e.step, stmts e.body.items)
 
 abbrev pub steps_of : LoopSteps → Steps
-steps_of s = (maybe s.condition, (s.semicolon, end_of s.end))
+steps_of s = (maybe_expr s.condition, (s.semicolon, end_of s.end))
 
 abbrev pub loop_of : Place → Loop → Place × g.Labelled
 loop_of at (l.Ever body) = (at, g.loop tree.no_header tree.no_expr tree.no_stmt (stmts body.items))
 loop_of at (l.While e body) = (at, g.loop tree.no_header (tree.some_expr (expr e)) tree.no_stmt (stmts body.items))
-loop_of at (l.Steps h s) = (at, g.loop (header_of h) (maybe s.condition) (maybe_stmt s.end.step) (stmts s.end.body.items))
+loop_of at (l.Steps h s) = (at, g.loop (header_of h) (maybe_expr s.condition) (maybe_stmt s.end.step) (stmts s.end.body.items))
 loop_of at (l.Range names s body) = (at, g.range names (span_of s) (stmts body.items))
 
 -- whether a body stands first

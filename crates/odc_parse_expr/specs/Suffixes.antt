@@ -4,8 +4,7 @@ use Rattle.odc_syntax.specs.declared.token.Token.{Token}
 use Rattle.odc_syntax.specs.declared.tree.Arg.{Arg}
 use Rattle.odc_syntax.specs.Tree as tree
 use Rattle.odc_syntax.specs.Grammar as g
-use Rattle.odc_syntax.specs.View.{expr, type, args}
-use Rattle.odc_nodes.specs.Given.{maybe}
+use Rattle.odc_syntax.specs.View.{expr, type, args, maybe_expr}
 use Rattle.odc_parse_expr.specs.declared.postfix.Suffix.{Suffix}
 use Rattle.odc_parse_expr.specs.declared.postfix.Suffix.TheVariants as s
 use Rattle.odc_parse_expr.specs.declared.postfix.HighEnd.{HighEnd}
@@ -16,14 +15,14 @@ suffix (s.Select at t) = g.select at t
 suffix (s.Assert at t) = g.assert at (type t)
 suffix (s.Deref at) = g.deref at
 suffix (s.Index at i) = g.index at (expr i)
-suffix (s.Cut at low high) = g.cut at (maybe low) (maybe high)
+suffix (s.Cut at low high) = g.cut at (maybe_expr low) (maybe_expr high)
 suffix (s.Call xs) = g.call (args xs.items)
 suffix s.OrReturn = g.or_return
 suffix (s.Literal xs) = g.literal (args xs.items)
 
 -- the end of a cut, and its bracket
 abbrev pub high_of : HighEnd → tree.MaybeExpr × (Token × Unit {0})
-high_of h = (maybe h.value, (h.close, tt))
+high_of h = (maybe_expr h.value, (h.close, tt))
 
 abbrev pub argument : Arg → Option Token × tree.Expr
 argument x = (x.name, expr x.value)

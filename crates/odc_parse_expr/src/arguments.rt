@@ -3,21 +3,23 @@
 ghost use Rattle.std.specs.Prelude.{◌≡◌, ◌∷◌, ◌<◌, ◌≤◌, ◌+◌, length, IfOk};
 ghost use Rattle.odc_syntax.specs.declared.token.TokenKind.TheVariants as kind;
 ghost use Rattle.odc_syntax.specs.Derives.{StartsWithout};
-ghost use Rattle.odc_parse_base.specs.Exact.{Exact};
-ghost use Rattle.odc_parse_base.specs.Parts.{arguments, arg_item, ClosesArguments};
-ghost use Rattle.odc_parse_base.specs.Read.{seen};
-ghost use Rattle.odc_parse_base.specs.Sets.{continues_argument, nothing_continues};
+ghost use Rattle.odc_lookahead.specs.Exact.{Exact};
+ghost use Rattle.odc_lookahead.specs.Parts.{arguments, arg_item, ClosesArguments};
+ghost use Rattle.odc_lookahead.specs.Read.{seen};
+ghost use Rattle.odc_lookahead.specs.Sets.{continues_argument, nothing_continues};
 ghost use Rattle.odc_parse_expr.specs.Suffixes.{argument, argument_list};
 
 use crate::binary::level;
+use odc_lookahead::lists::after_item;
+use odc_lookahead::operators::going_on;
+use odc_lookahead::stop::Stop;
+use odc_lookahead::tokens::{strip, within};
 use odc_nodes::nodes;
-use odc_parse_base::lists::after_item;
-use odc_parse_base::operators::going_on;
-use odc_parse_base::stop::Stop;
-use odc_parse_base::tokens::{strip, within};
 use odc_syntax::grammar::{Level, Mode};
 use odc_syntax::token::{Token, TokenKind};
 use odc_syntax::tree::{Arg, ExprKind};
+use odc_tree::discard::discard_args;
+use odc_tree::list::push_arg;
 use std::alloc::Global;
 
 /// Arguments, with the token that closes them.
@@ -47,13 +49,13 @@ pub fn arguments<'a>(
     'items: loop {
         let (item, n, after) = match argument(alloc, rest, depth) {
             Ok(read) => read,
-            Err(error) => return Err(nodes::discard_list(args, error)),
+            Err(error) => return Err(discard_args(args, error)),
         };
-        args = nodes::push(args, item)?;
+        args = push_arg(args, item)?;
         height = height.max(n);
         let (end, behind) = match after_item(after, close, within(height, depth)) {
             Ok(found) => found,
-            Err(error) => return Err(nodes::discard_list(args, error)),
+            Err(error) => return Err(discard_args(args, error)),
         };
         match end {
             Some(token) => return Ok((ArgumentList { args, close: token }, height, behind)),
@@ -96,7 +98,7 @@ fn argument<'a>(
         };
     }
     if depth == 0 {
-        return name_alone(name, behind);
+        return name_alone(alloc, name, behind);
     }
     match level(alloc, Level::Or, Mode::Free, tokens, depth) {
         Ok((value, height, after)) => Ok((Arg { name: None, value }, height, after)),
@@ -106,7 +108,7 @@ fn argument<'a>(
 
 /// A name where no expression may stand any more: it may be the name of an argument, and as an expression
 /// it is too deep.
-fn name_alone(name: Token, behind: &[Token]) -> Result<(Arg, u16, &[Token]), Stop>
+fn name_alone(alloc: Global, name: Token, behind: &[Token]) -> Result<(Arg, u16, &[Token]), Stop>
     ensures exact { name.kind ≡ kind.Name → StartsWithout kind.Assign behind.now
         → Exact arg_item continues_argument 0 (name ∷ behind.now) (seen argument result) }
     ensures shorter { IfOk result (λ r. length r.2.now ≤ length behind.now) }
@@ -115,7 +117,7 @@ fn name_alone(name: Token, behind: &[Token]) -> Result<(Arg, u16, &[Token]), Sto
     match going_on(Mode::Free, behind) {
         Some((_token, rest)) => Err(Stop::Deep(rest.len())),
         None => {
-            let value = nodes::leaf(name.at, ExprKind::Name(name));
+            let value = nodes::leaf(alloc, name.at, ExprKind::Name(name))?;
             Ok((Arg { name: None, value }, 1, behind))
         }
     }

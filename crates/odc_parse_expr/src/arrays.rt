@@ -9,22 +9,23 @@ ghost use Rattle.odc_syntax.specs.declared.grammar.Use.TheVariants.{Parameter};
 ghost use Rattle.odc_syntax.specs.declared.token.Token.{Token as SpecToken};
 ghost use Rattle.odc_syntax.specs.declared.token.TokenKind.TheVariants as kind;
 ghost use Rattle.odc_syntax.specs.Derives.{StartsWithout};
-ghost use Rattle.odc_parse_base.specs.Ends.{ExactAs, seen_to, closed_by};
-ghost use Rattle.odc_parse_base.specs.Exact.{Exact, one};
-ghost use Rattle.odc_parse_base.specs.Sets.{nothing_continues};
-ghost use Rattle.odc_parse_base.specs.TypeParts.{length_line, shaped, Bracketed, Questioned};
+ghost use Rattle.odc_lookahead.specs.Ends.{ExactAs, seen_to, closed_by};
+ghost use Rattle.odc_lookahead.specs.Exact.{Exact, one};
+ghost use Rattle.odc_lookahead.specs.Sets.{nothing_continues};
+ghost use Rattle.odc_lookahead.specs.TypeParts.{length_line, shaped, Bracketed, Questioned};
 
 use crate::binary::level;
 use crate::types::{ty, type_to};
+use odc_lookahead::end::{End, at_end};
+use odc_lookahead::shape::{Shape, counts, strip_dollar};
+use odc_lookahead::stop::Stop;
+use odc_lookahead::tokens::{expect, strip, within};
 use odc_nodes::type_nodes;
-use odc_parse_base::end::{End, at_end};
-use odc_parse_base::shape::{Shape, counts, strip_dollar};
-use odc_parse_base::stop::Stop;
-use odc_parse_base::tokens::{expect, strip, within};
 use odc_syntax::grammar::{Level, Mode, Use};
 use odc_syntax::token::{Token, TokenKind};
 use odc_syntax::tree::{Length, Type};
 use odc_text::place::Place;
+use odc_tree::discard::{discard_expr, discard_length, discard_type};
 use std::alloc::{AllocError, Global};
 
 /// A type with square brackets, from behind the opening one.
@@ -72,7 +73,7 @@ fn sized<'a>(
             rest,
             end,
         )),
-        Err(error) => Err(type_nodes::discard_length(count, error)),
+        Err(error) => Err(discard_length(count, error)),
     }
 }
 
@@ -106,7 +107,7 @@ fn counted<'a>(
             End::Sure,
         ))
     } else {
-        Err(type_nodes::discard_type(t, Stop::Syntax(rest.len())))
+        Err(discard_type(t, Stop::Syntax(rest.len())))
     }
 }
 
@@ -176,8 +177,8 @@ fn fixed<'a>(
         Err(error) => return Err(error),
     };
     match expect(after, TokenKind::CloseBracket, within(height, depth)) {
-        Ok((close, rest)) => Ok((type_nodes::fixed(alloc, e)?, close, height, rest)),
-        Err(error) => Err(type_nodes::discard_expr(e, error)),
+        Ok((close, rest)) => Ok((Length::Fixed(e), close, height, rest)),
+        Err(error) => Err(discard_expr(e, error)),
     }
 }
 

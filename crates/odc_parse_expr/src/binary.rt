@@ -4,17 +4,18 @@ ghost use Rattle.std.specs.Prelude.{◌≡◌, ◌<◌, ◌≤◌, ◌+◌, leng
 ghost use Rattle.odc_syntax.specs.Grammar as g;
 ghost use Rattle.odc_syntax.specs.View.{expr};
 ghost use Rattle.odc_syntax.specs.declared.grammar.Level.TheVariants as level;
-ghost use Rattle.odc_parse_base.specs.Exact.{Exact, one};
-ghost use Rattle.odc_parse_base.specs.Read.{seen};
-ghost use Rattle.odc_parse_base.specs.Sets.{continues, continues_item};
+ghost use Rattle.odc_lookahead.specs.Exact.{Exact, one};
+ghost use Rattle.odc_lookahead.specs.Read.{seen};
+ghost use Rattle.odc_lookahead.specs.Sets.{continues, continues_item};
 
 use crate::unary::unary;
+use odc_lookahead::operators::{later, operator};
+use odc_lookahead::stop::Stop;
 use odc_nodes::nodes;
-use odc_parse_base::operators::{later, operator};
-use odc_parse_base::stop::Stop;
 use odc_syntax::grammar::{Level, Mode};
 use odc_syntax::token::Token;
 use odc_syntax::tree::Expr;
+use odc_tree::discard::discard_expr;
 use std::alloc::Global;
 
 /// An expression of a level: any expression at the loosest.
@@ -79,11 +80,11 @@ fn chained<'a>(
     };
     while let Some((op, token, behind)) = operator(of, rest) {
         if height >= u16::from(depth) {
-            return Err(nodes::discard(e, Stop::Deep(behind.len())));
+            return Err(discard_expr(e, Stop::Deep(behind.len())));
         }
         let (right, n, after) = match item(alloc, of, later(mode), behind, depth - 1) {
             Ok(read) => read,
-            Err(error) => return Err(nodes::discard(e, error)),
+            Err(error) => return Err(discard_expr(e, error)),
         };
         e = nodes::binary(alloc, e, token.at, op, right)?;
         height = height.max(n) + 1;
@@ -113,13 +114,13 @@ fn comparison<'a>(
         None => return Ok((e, height, rest)),
     };
     if height >= u16::from(depth) {
-        return Err(nodes::discard(e, Stop::Deep(behind.len())));
+        return Err(discard_expr(e, Stop::Deep(behind.len())));
     }
     match item(alloc, Level::Comparison, later(mode), behind, depth - 1) {
         Ok((right, n, after)) => {
             let whole = nodes::binary(alloc, e, token.at, op, right)?;
             Ok((whole, height.max(n) + 1, after))
         }
-        Err(error) => Err(nodes::discard(e, error)),
+        Err(error) => Err(discard_expr(e, error)),
     }
 }

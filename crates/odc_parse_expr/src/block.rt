@@ -1,24 +1,25 @@
 //! Statements with semicolons between them, blocks and bodies.
 
 ghost use Rattle.std.specs.Prelude.{◌≡◌, ◌↔◌, ◌<◌, ◌≤◌, ◌+◌, length, IsTrue, IfOk};
-ghost use Rattle.odc_parse_base.specs.declared.stop.Stop.TheVariants as stops;
-ghost use Rattle.odc_parse_base.specs.Runs.{Skips};
+ghost use Rattle.odc_lookahead.specs.declared.stop.Stop.TheVariants as stops;
+ghost use Rattle.odc_lookahead.specs.Runs.{Skips};
 ghost use Rattle.odc_syntax.specs.Grammar as g;
-ghost use Rattle.odc_parse_base.specs.BodyParts.{braces_line};
-ghost use Rattle.odc_parse_base.specs.Exact.{Exact, one};
-ghost use Rattle.odc_parse_base.specs.Read.{seen};
-ghost use Rattle.odc_parse_base.specs.Sets.{nothing_continues};
-ghost use Rattle.odc_parse_base.specs.Statements.{stmt_list};
+ghost use Rattle.odc_lookahead.specs.BodyParts.{braces_line};
+ghost use Rattle.odc_lookahead.specs.Exact.{Exact, one};
+ghost use Rattle.odc_lookahead.specs.Read.{seen};
+ghost use Rattle.odc_lookahead.specs.Sets.{nothing_continues};
+ghost use Rattle.odc_lookahead.specs.Statements.{stmt_list};
 ghost use Rattle.odc_parse_expr.specs.Blocks.{braces_of, BodyOver};
 ghost use Rattle.odc_syntax.specs.declared.grammar.Mode.TheVariants.{Free};
-ghost use Rattle.odc_parse_base.specs.StatementSets.{continues_statement, continues_statements};
+ghost use Rattle.odc_lookahead.specs.StatementSets.{continues_statement, continues_statements};
 
 use crate::statement::statement;
-use odc_nodes::stmt_nodes;
-use odc_parse_base::stop::Stop;
-use odc_parse_base::tokens::{expect, strip, within};
+use odc_lookahead::stop::Stop;
+use odc_lookahead::tokens::{expect, strip, within};
 use odc_syntax::token::{Token, TokenKind};
 use odc_syntax::tree::Stmt;
+use odc_tree::discard::discard_stmts;
+use odc_tree::list::push_stmt;
 use std::alloc::Global;
 
 /// Statements, up to what begins none.
@@ -43,15 +44,15 @@ pub fn stmts<'a>(
                 if stands_at(error, start.len()) {
                     return Ok((list, height, start));
                 }
-                return Err(stmt_nodes::discard_stmts(list, error));
+                return Err(discard_stmts(list, error));
             }
         };
-        list = stmt_nodes::push_stmt(list, s)?;
+        list = push_stmt(list, s)?;
         height = height.max(n);
         match strip(after, TokenKind::Semicolon) {
             Some((_semicolon, behind)) => {
                 if height > u16::from(depth) {
-                    return Err(stmt_nodes::discard_stmts(list, Stop::Deep(behind.len())));
+                    return Err(discard_stmts(list, Stop::Deep(behind.len())));
                 }
                 rest = behind;
             }
@@ -83,7 +84,7 @@ pub fn braces<'a>(
     };
     match expect(rest, TokenKind::CloseBrace, within(height, depth)) {
         Ok((close, after)) => Ok((Braced { stmts: list, close }, height, after)),
-        Err(error) => Err(stmt_nodes::discard_stmts(list, error)),
+        Err(error) => Err(discard_stmts(list, error)),
     }
 }
 
@@ -114,7 +115,7 @@ pub fn body<'a>(
     match statement(alloc, behind, depth) {
         Ok((s, height, rest)) => {
             let none = Vec::new(alloc);
-            let list = stmt_nodes::push_stmt(none, s)?;
+            let list = push_stmt(none, s)?;
             Ok((list, height, rest))
         }
         Err(error) => Err(error),

@@ -2,18 +2,19 @@
 
 ghost use Rattle.std.specs.Prelude.{◌≡◌, ◌≤◌, ◌+◌, length, IfOk};
 ghost use Rattle.odc_syntax.specs.Grammar as g;
-ghost use Rattle.odc_parse_base.specs.Exact.{Exact, one};
-ghost use Rattle.odc_parse_base.specs.Read.{seen};
+ghost use Rattle.odc_lookahead.specs.Exact.{Exact, one};
+ghost use Rattle.odc_lookahead.specs.Read.{seen};
 ghost use Rattle.odc_parse_expr.specs.SwitchForms.{case_list};
-ghost use Rattle.odc_parse_base.specs.SwitchSets.{continues_cases};
+ghost use Rattle.odc_lookahead.specs.SwitchSets.{continues_cases};
 
 use crate::block::stmts;
 use crate::spans::items;
-use odc_nodes::switch_nodes;
-use odc_parse_base::stop::Stop;
-use odc_parse_base::tokens::{expect, strip, within};
+use odc_lookahead::stop::Stop;
+use odc_lookahead::tokens::{expect, strip, within};
 use odc_syntax::token::{Token, TokenKind};
 use odc_syntax::tree::{Case, Span};
+use odc_tree::discard::{discard_cases, discard_spans};
+use odc_tree::list::push_case;
 use std::alloc::Global;
 
 /// Cases, up to what begins none.
@@ -32,11 +33,11 @@ pub fn cases<'a>(
     let mut rest = tokens;
     'cases: while let Some((word, behind)) = strip(rest, TokenKind::Case) {
         if height > u16::from(depth) {
-            return Err(switch_nodes::discard_cases(list, Stop::Deep(behind.len())));
+            return Err(discard_cases(list, Stop::Deep(behind.len())));
         }
         let (values, n, colon) = match items(alloc, behind, depth) {
             Ok(read) => read,
-            Err(error) => return Err(switch_nodes::discard_cases(list, error)),
+            Err(error) => return Err(discard_cases(list, error)),
         };
         let top = height.max(n);
         let inner = match expect(colon, TokenKind::Colon, within(top, depth)) {
@@ -47,7 +48,14 @@ pub fn cases<'a>(
             Ok(read) => read,
             Err(error) => return Err(discard_values(list, values, error)),
         };
-        list = switch_nodes::push_case(list, switch_nodes::case(word.at, values, body))?;
+        list = push_case(
+            list,
+            Case {
+                at: word.at,
+                items: values,
+                body,
+            },
+        )?;
         height = top.max(m);
         rest = after;
     }
@@ -58,5 +66,5 @@ pub fn cases<'a>(
 fn discard_values(list: Vec<Case>, values: Vec<Span>, why: Stop) -> Stop
     ensures { result ≡ why }
 {
-    switch_nodes::discard_cases(list, switch_nodes::discard_spans(values, why))
+    discard_cases(list, discard_spans(values, why))
 }

@@ -4,14 +4,13 @@ ghost use Rattle.std.specs.Prelude.{List, ◌≡◌, ◌∷◌, ◌<◌, ◌≤�
 ghost use Rattle.odc_syntax.specs.declared.token.Token.{Token as TokenValue};
 ghost use Rattle.odc_syntax.specs.Grammar as g;
 ghost use Rattle.odc_syntax.specs.Tree as tree;
-ghost use Rattle.odc_syntax.specs.View.{expr, stmt, stmts};
-ghost use Rattle.odc_nodes.specs.StmtViews.{header_of, else_of};
-ghost use Rattle.odc_parse_base.specs.BodyParts.{head_line};
+ghost use Rattle.odc_syntax.specs.View.{expr, stmt, stmts, header_of, else_of};
+ghost use Rattle.odc_lookahead.specs.BodyParts.{head_line};
 ghost use Rattle.odc_parse_expr.specs.Conditionals.{head_of, IfRead};
-ghost use Rattle.odc_parse_base.specs.Headers.{HeadExpression, ClosedFrom, ConditionFrom};
-ghost use Rattle.odc_parse_base.specs.Exact.{Exact, one};
-ghost use Rattle.odc_parse_base.specs.Read.{seen};
-ghost use Rattle.odc_parse_base.specs.StatementSets.{continues_statement, continues_head, continues_clause, EndsClause};
+ghost use Rattle.odc_lookahead.specs.Headers.{HeadExpression, ClosedFrom, ConditionFrom};
+ghost use Rattle.odc_lookahead.specs.Exact.{Exact, one};
+ghost use Rattle.odc_lookahead.specs.Read.{seen};
+ghost use Rattle.odc_lookahead.specs.StatementSets.{continues_statement, continues_head, continues_clause, EndsClause};
 
 use crate::binary::level;
 use crate::block::{body, body_over};
@@ -19,13 +18,14 @@ use crate::declaration::declaration;
 use crate::run_bounds::run_over;
 use crate::runs::{NamesEnd, names_in};
 use crate::simple::{assignment_of, nothing_fits, simple, simple_from};
-use odc_nodes::{nodes, stmt_nodes};
-use odc_parse_base::stop::Stop;
-use odc_parse_base::tokens::{expect, first, same_kind, strip, within};
+use odc_lookahead::stop::Stop;
+use odc_lookahead::tokens::{expect, first, same_kind, strip, within};
+use odc_nodes::stmt_nodes;
 use odc_syntax::grammar::{Level, Mode};
 use odc_syntax::token::{Token, TokenKind};
 use odc_syntax::tree::{Else, Expr, Header, Stmt};
 use odc_text::place::Place;
+use odc_tree::discard::{discard_expr, discard_header, discard_stmts};
 use std::alloc::{AllocError, Global};
 
 /// What stands before a body: a declaration or a simple statement if there is one, and the condition.
@@ -107,7 +107,7 @@ fn otherwise<'a>(
     if let Some((_if, _after)) = strip(behind, TokenKind::If) {
         return match if_statement(alloc, behind, depth) {
             Ok((s, n, after)) => Ok((
-                else_if(alloc, at, head, block, s)?,
+                conditional(alloc, at, head, block, Else::If(s))?,
                 height.max(n) + 1,
                 after,
             )),
@@ -140,7 +140,7 @@ pub fn before_body<'a>(
     }
     match names_in(tokens) {
         NamesEnd::Declared => match declaration(alloc, Mode::Header, tokens, depth) {
-            Ok((d, n, rest)) => closed(alloc, stmt_nodes::declared(alloc, d)?, n, rest, depth),
+            Ok((d, n, rest)) => closed(alloc, Header::Decl(d), n, rest, depth),
             Err(error) => Err(error),
         },
         NamesEnd::Listed => {
@@ -148,7 +148,7 @@ pub fn before_body<'a>(
                 return Err(run_over(alloc, tokens));
             }
             match simple(alloc, Mode::Header, tokens, depth) {
-                Ok((s, n, rest)) => closed(alloc, stmt_nodes::assigned(alloc, s)?, n, rest, depth),
+                Ok((s, n, rest)) => closed(alloc, Header::Simple(s), n, rest, depth),
                 Err(error) => Err(error),
             }
         }
@@ -177,14 +177,14 @@ fn behind_expression<'a>(
         None => return Ok((bare(e), height, tokens)),
     };
     if height >= u16::from(depth) {
-        return Err(nodes::discard(e, Stop::Deep(behind.len())));
+        return Err(discard_expr(e, Stop::Deep(behind.len())));
     }
     if same_kind(token.kind, TokenKind::Semicolon) {
         let header = stmt_nodes::evaluated(alloc, e)?;
         return condition(alloc, header, height + 1, behind, depth);
     }
     match simple_from(alloc, Mode::Header, e, height, tokens, depth - 1) {
-        Ok((s, n, rest)) => closed(alloc, stmt_nodes::assigned(alloc, s)?, n, rest, depth),
+        Ok((s, n, rest)) => closed(alloc, Header::Simple(s), n, rest, depth),
         Err(error) => Err(error),
     }
 }
@@ -217,7 +217,7 @@ fn closed<'a>(
 {
     match expect(tokens, TokenKind::Semicolon, within(height, depth)) {
         Ok((_semicolon, rest)) => condition(alloc, header, height, rest, depth),
-        Err(error) => Err(stmt_nodes::discard_header(header, error)),
+        Err(error) => Err(discard_header(header, error)),
     }
 }
 
@@ -243,7 +243,7 @@ fn condition<'a>(
             height.max(n),
             rest,
         )),
-        Err(error) => Err(stmt_nodes::discard_header(header, error)),
+        Err(error) => Err(discard_header(header, error)),
     }
 }
 
@@ -271,31 +271,17 @@ fn conditional(
     stmt_nodes::conditional(alloc, at, header, condition, block, other)
 }
 
-/// `if` with `else if`.
-fn else_if(
-    alloc: Global,
-    at: Place,
-    head: Head,
-    block: Vec<Stmt>,
-    other: Stmt,
-) -> Result<Stmt, AllocError>
-    ensures { IfOk result (λ s. stmt s ≡ tree.stmt at (tree.if_ (head_of head).0 (head_of head).1.0 (stmts block.items) (tree.else_if (stmt other)))) }
-{
-    let Head { header, condition } = head;
-    stmt_nodes::else_if(alloc, at, header, condition, block, other)
-}
-
 /// The reason why what stands before a body is not used.
 fn discard_head(head: Head, why: Stop) -> Stop
     ensures { result ≡ why }
 {
     let Head { header, condition } = head;
-    stmt_nodes::discard_header(header, nodes::discard(condition, why))
+    discard_header(header, discard_expr(condition, why))
 }
 
 /// The reason why what was read of an `if` is not used.
 fn discard_if(head: Head, block: Vec<Stmt>, why: Stop) -> Stop
     ensures { result ≡ why }
 {
-    discard_head(head, stmt_nodes::discard_stmts(block, why))
+    discard_head(head, discard_stmts(block, why))
 }

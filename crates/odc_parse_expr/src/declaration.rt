@@ -4,20 +4,21 @@ ghost use Rattle.std.specs.Prelude.{List, ℕ, ◌<◌, ◌≤◌, ◌+◌, suc,
 ghost use Rattle.odc_syntax.specs.declared.token.Token.{Token as TokenValue};
 ghost use Rattle.odc_syntax.specs.Grammar as g;
 ghost use Rattle.odc_syntax.specs.View.{type, decl};
-ghost use Rattle.odc_parse_base.specs.DeclarationParts.{name_list, continues_names, Headed, Typed};
-ghost use Rattle.odc_parse_base.specs.Exact.{Exact, Found, one};
-ghost use Rattle.odc_parse_base.specs.Read.{seen, refused};
-ghost use Rattle.odc_parse_base.specs.StatementSets.{continues_declaration};
+ghost use Rattle.odc_lookahead.specs.DeclarationParts.{name_list, continues_names, Headed, Typed};
+ghost use Rattle.odc_lookahead.specs.Exact.{Exact, Found, one};
+ghost use Rattle.odc_lookahead.specs.Read.{seen, refused};
+ghost use Rattle.odc_lookahead.specs.StatementSets.{continues_declaration};
 
 use crate::exprs::exprs;
 use crate::types::ty;
-use odc_nodes::{nodes, stmt_nodes};
-use odc_parse_base::stop::Stop;
-use odc_parse_base::tokens::{expect, strip};
+use odc_lookahead::stop::Stop;
+use odc_lookahead::tokens::{expect, strip};
+use odc_nodes::stmt_nodes;
 use odc_syntax::grammar::{Mode, Use};
 use odc_syntax::token::{Token, TokenKind};
 use odc_syntax::tree::{Decl, Type};
 use odc_text::place::Place;
+use odc_tree::discard::discard_type;
 use std::alloc::Global;
 
 /// A declaration of constants or variables.
@@ -88,7 +89,11 @@ fn behind_colon<'a>(
     if let Some((_assign, rest)) = strip(tokens, TokenKind::Assign) {
         return match exprs(alloc, mode, rest, depth) {
             Ok((values, height, after)) => {
-                Ok((stmt_nodes::inferred(at, names, values), height + 1, after))
+                Ok((
+                    stmt_nodes::inferred(alloc, at, names, values)?,
+                    height + 1,
+                    after,
+                ))
             }
             Err(error) => Err(error),
         };
@@ -96,7 +101,11 @@ fn behind_colon<'a>(
     if let Some((_colon, rest)) = strip(tokens, TokenKind::Colon) {
         return match exprs(alloc, mode, rest, depth) {
             Ok((values, height, after)) => {
-                Ok((stmt_nodes::constant(at, names, values), height + 1, after))
+                Ok((
+                    stmt_nodes::constant(alloc, at, names, values)?,
+                    height + 1,
+                    after,
+                ))
             }
             Err(error) => Err(error),
         };
@@ -127,11 +136,11 @@ fn behind_type<'a>(
     // Nothing that is read is deeper, so that the sums below fit.
     let most = u16::from(depth) + 1;
     if height > most {
-        return Err(nodes::discard_type(t, Stop::Memory));
+        return Err(discard_type(t, Stop::Memory));
     }
     if let Some((_colon, rest)) = strip(tokens, TokenKind::Colon) {
         if height > u16::from(depth) {
-            return Err(nodes::discard_type(t, Stop::Deep(rest.len())));
+            return Err(discard_type(t, Stop::Deep(rest.len())));
         }
         return match exprs(alloc, mode, rest, depth) {
             Ok((values, n, after)) => Ok((
@@ -139,7 +148,7 @@ fn behind_type<'a>(
                 height.max(n) + 1,
                 after,
             )),
-            Err(error) => Err(nodes::discard_type(t, error)),
+            Err(error) => Err(discard_type(t, error)),
         };
     }
     let rest = match strip(tokens, TokenKind::Assign) {
@@ -147,7 +156,7 @@ fn behind_type<'a>(
         None => return Ok((stmt_nodes::zeros(alloc, at, names, t)?, height + 1, tokens)),
     };
     if height > u16::from(depth) {
-        return Err(nodes::discard_type(t, Stop::Deep(rest.len())));
+        return Err(discard_type(t, Stop::Deep(rest.len())));
     }
     if let Some((_dashes, after)) = strip(rest, TokenKind::Dashes) {
         return Ok((stmt_nodes::dashes(alloc, at, names, t)?, height + 1, after));
@@ -158,6 +167,6 @@ fn behind_type<'a>(
             height.max(n) + 1,
             after,
         )),
-        Err(error) => Err(nodes::discard_type(t, error)),
+        Err(error) => Err(discard_type(t, error)),
     }
 }

@@ -5,20 +5,22 @@ ghost use Rattle.odc_syntax.specs.declared.token.Token.{Token as TokenValue};
 ghost use Rattle.odc_syntax.specs.Grammar as g;
 ghost use Rattle.odc_syntax.specs.View.{expr};
 ghost use Rattle.odc_syntax.specs.declared.grammar.Level.TheVariants as levels;
-ghost use Rattle.odc_parse_base.specs.Exact.{Exact, Found, one};
-ghost use Rattle.odc_parse_base.specs.Read.{seen};
-ghost use Rattle.odc_parse_base.specs.Sets.{continues};
-ghost use Rattle.odc_parse_base.specs.StatementSets.{continues_exprs};
-ghost use Rattle.odc_parse_base.specs.Statements.{expr_list, BeginsWith};
+ghost use Rattle.odc_lookahead.specs.Exact.{Exact, Found, one};
+ghost use Rattle.odc_lookahead.specs.Read.{seen};
+ghost use Rattle.odc_lookahead.specs.Sets.{continues};
+ghost use Rattle.odc_lookahead.specs.StatementSets.{continues_exprs};
+ghost use Rattle.odc_lookahead.specs.Statements.{expr_list, BeginsWith};
 
 use crate::binary::level;
+use odc_lookahead::operators::later;
+use odc_lookahead::stop::Stop;
+use odc_lookahead::tokens::strip;
 use odc_nodes::stmt_nodes;
-use odc_parse_base::operators::later;
-use odc_parse_base::stop::Stop;
-use odc_parse_base::tokens::strip;
 use odc_syntax::grammar::{Level, Mode};
 use odc_syntax::token::{Token, TokenKind};
 use odc_syntax::tree::Expr;
+use odc_tree::discard::discard_exprs;
+use odc_tree::list::push_expr;
 use std::alloc::Global;
 
 /// Expressions between commas.
@@ -61,13 +63,13 @@ pub fn exprs_from<'a>(
     let mut rest = tokens;
     'items: while let Some((_comma, behind)) = strip(rest, TokenKind::Comma) {
         if top > u16::from(depth) {
-            return Err(stmt_nodes::discard_exprs(list, Stop::Deep(behind.len())));
+            return Err(discard_exprs(list, Stop::Deep(behind.len())));
         }
         let (e, n, after) = match level(alloc, Level::Or, later(mode), behind, depth) {
             Ok(read) => read,
-            Err(error) => return Err(stmt_nodes::discard_exprs(list, error)),
+            Err(error) => return Err(discard_exprs(list, error)),
         };
-        list = stmt_nodes::push_expr(list, e)?;
+        list = push_expr(list, e)?;
         top = top.max(n);
         rest = after;
     }

@@ -2,28 +2,30 @@
 
 ghost use Rattle.std.specs.Prelude.{◌≡◌, ◌∷◌, ◌<◌, ◌≤◌, ◌+◌, ℕ, suc, length, IfOk};
 ghost use Rattle.odc_syntax.specs.Grammar as g;
-ghost use Rattle.odc_syntax.specs.View.{type, types, fields};
+ghost use Rattle.odc_syntax.specs.View.{type, types, fields, maybe_expr, maybe_type, enumerators};
 ghost use Rattle.odc_syntax.specs.declared.token.TokenKind.TheVariants as kind;
 ghost use Rattle.odc_syntax.specs.Derives.{StartsWithout};
-ghost use Rattle.odc_parse_base.specs.Ends.{ExactAs, seen_to, closed_by};
-ghost use Rattle.odc_parse_base.specs.Exact.{Exact, one};
-ghost use Rattle.odc_parse_base.specs.Read.{seen};
-ghost use Rattle.odc_parse_base.specs.Sets.{continues_argument, nothing_continues};
-ghost use Rattle.odc_parse_base.specs.TypeParts.{field_item, enumerator_item, fields_line, types_line, enumerators_line, base_line, field_by};
-ghost use Rattle.odc_nodes.specs.Given.{given_expr, given_type};
-ghost use Rattle.odc_nodes.specs.TypeViews.{enumerator, enumerators};
+ghost use Rattle.odc_lookahead.specs.Ends.{ExactAs, seen_to, closed_by};
+ghost use Rattle.odc_lookahead.specs.Exact.{Exact, one};
+ghost use Rattle.odc_lookahead.specs.Read.{seen};
+ghost use Rattle.odc_lookahead.specs.Sets.{continues_argument, nothing_continues};
+ghost use Rattle.odc_lookahead.specs.TypeParts.{field_item, enumerator_item, fields_line, types_line, enumerators_line, base_line, field_by, enumerator};
 
 use crate::binary::level;
 use crate::types::ty;
+use odc_lookahead::end::End;
+use odc_lookahead::lists::after_item;
+use odc_lookahead::name_lists::names;
+use odc_lookahead::stop::Stop;
+use odc_lookahead::tokens::{expect, strip, within};
 use odc_nodes::type_nodes;
-use odc_parse_base::end::End;
-use odc_parse_base::lists::after_item;
-use odc_parse_base::name_lists::names;
-use odc_parse_base::stop::Stop;
-use odc_parse_base::tokens::{expect, strip, within};
 use odc_syntax::grammar::{Level, Mode, Use};
 use odc_syntax::token::{Token, TokenKind};
 use odc_syntax::tree::{Enumerator, Expr, Field, Type};
+use odc_tree::discard::{
+    discard_enumerators, discard_fields, discard_optional_type, discard_type, discard_types,
+};
+use odc_tree::list::{push_enumerator, push_field, push_type};
 use std::alloc::Global;
 
 /// `struct {..}`
@@ -45,7 +47,7 @@ pub fn struct_type<'a>(
     };
     match field_list(alloc, used, inner, depth) {
         Ok((list, _close, height, rest)) => Ok((
-            type_nodes::structure(token.at, list),
+            type_nodes::structure(alloc, token.at, list)?,
             height + 1,
             rest,
             End::Sure,
@@ -75,13 +77,13 @@ fn field_list<'a>(
     'items: loop {
         let (item, _colon, n, after) = match field(alloc, used, rest, depth) {
             Ok(read) => read,
-            Err(error) => return Err(type_nodes::discard_fields(list, error)),
+            Err(error) => return Err(discard_fields(list, error)),
         };
-        list = type_nodes::push_field(list, item)?;
+        list = push_field(list, item)?;
         height = height.max(n);
         let (end, behind) = match after_item(after, TokenKind::CloseBrace, within(height, depth)) {
             Ok(found) => found,
-            Err(error) => return Err(type_nodes::discard_fields(list, error)),
+            Err(error) => return Err(discard_fields(list, error)),
         };
         match end {
             Some(close) => return Ok((list, close, height, behind)),
@@ -131,7 +133,7 @@ pub fn union_type<'a>(
     };
     match type_list(alloc, used, inner, depth) {
         Ok((list, _close, height, rest)) => Ok((
-            type_nodes::union_of(token.at, list),
+            type_nodes::union_of(alloc, token.at, list)?,
             height + 1,
             rest,
             End::Sure,
@@ -161,13 +163,13 @@ fn type_list<'a>(
     'items: loop {
         let (item, n, after) = match ty(alloc, used, rest, depth) {
             Ok(read) => read,
-            Err(error) => return Err(type_nodes::discard_types(list, error)),
+            Err(error) => return Err(discard_types(list, error)),
         };
-        list = type_nodes::push_type(list, item)?;
+        list = push_type(list, item)?;
         height = height.max(n);
         let (end, behind) = match after_item(after, TokenKind::CloseBrace, within(height, depth)) {
             Ok(found) => found,
-            Err(error) => return Err(type_nodes::discard_types(list, error)),
+            Err(error) => return Err(discard_types(list, error)),
         };
         match end {
             Some(close) => return Ok((list, close, height, behind)),
@@ -195,12 +197,12 @@ pub fn enum_type<'a>(
     };
     match enumerator_list(alloc, inner, depth) {
         Ok((list, _close, m, rest)) => Ok((
-            type_nodes::enumeration(token.at, base, list),
+            type_nodes::enumeration(alloc, token.at, base, list)?,
             n.max(m) + 1,
             rest,
             End::Sure,
         )),
-        Err(error) => Err(type_nodes::discard_base(base, error)),
+        Err(error) => Err(discard_optional_type(base, error)),
     }
 }
 
@@ -211,8 +213,8 @@ fn base_type<'a>(
     used: Use,
     tokens: &'a [Token],
     depth: u8,
-) -> Result<(Option<Box<Type>>, Token, u16, &'a [Token]), Stop>
-    ensures exact { Exact (base_line (g.inside used)) nothing_continues depth tokens.now (closed_by given_type result) }
+) -> Result<(Option<Type>, Token, u16, &'a [Token]), Stop>
+    ensures exact { Exact (base_line (g.inside used)) nothing_continues depth tokens.now (closed_by maybe_type result) }
     ensures shorter { IfOk result (λ r. length r.3.now < length tokens.now) }
     ensures low { IfOk result (λ r. r.2 ≤ depth) }
 {
@@ -229,8 +231,8 @@ fn base<'a>(
     used: Use,
     tokens: &'a [Token],
     depth: u8,
-) -> Result<(Option<Box<Type>>, Token, u16, &'a [Token]), Stop>
-    ensures exact { StartsWithout kind.OpenBrace tokens.now → Exact (base_line (g.inside used)) nothing_continues depth tokens.now (closed_by given_type result) }
+) -> Result<(Option<Type>, Token, u16, &'a [Token]), Stop>
+    ensures exact { StartsWithout kind.OpenBrace tokens.now → Exact (base_line (g.inside used)) nothing_continues depth tokens.now (closed_by maybe_type result) }
     ensures shorter { IfOk result (λ r. length r.3.now < length tokens.now) }
     ensures low { IfOk result (λ r. r.2 ≤ depth) }
 {
@@ -239,8 +241,8 @@ fn base<'a>(
         Err(error) => return Err(error),
     };
     match expect(after, TokenKind::OpenBrace, within(height, depth)) {
-        Ok((open, inner)) => Ok((type_nodes::boxed_type(alloc, t)?, open, height, inner)),
-        Err(error) => Err(type_nodes::discard_type(t, error)),
+        Ok((open, inner)) => Ok((Some(t), open, height, inner)),
+        Err(error) => Err(discard_type(t, error)),
     }
 }
 
@@ -264,13 +266,13 @@ fn enumerator_list<'a>(
     'items: loop {
         let (item, n, after) = match enumerator(alloc, rest, depth) {
             Ok(read) => read,
-            Err(error) => return Err(type_nodes::discard_enumerators(list, error)),
+            Err(error) => return Err(discard_enumerators(list, error)),
         };
-        list = type_nodes::push_enumerator(list, item)?;
+        list = push_enumerator(list, item)?;
         height = height.max(n);
         let (end, behind) = match after_item(after, TokenKind::CloseBrace, within(height, depth)) {
             Ok(found) => found,
-            Err(error) => return Err(type_nodes::discard_enumerators(list, error)),
+            Err(error) => return Err(discard_enumerators(list, error)),
         };
         match end {
             Some(close) => return Ok((list, close, height, behind)),
@@ -295,7 +297,7 @@ fn enumerator<'a>(
         Err(error) => return Err(error),
     };
     match given(alloc, behind, depth) {
-        Ok((value, height, rest)) => Ok((type_nodes::enumerator(name, value), height, rest)),
+        Ok((value, height, rest)) => Ok((Enumerator { name, value }, height, rest)),
         Err(error) => Err(error),
     }
 }
@@ -306,14 +308,14 @@ pub fn given<'a>(
     alloc: Global,
     tokens: &'a [Token],
     depth: u8,
-) -> Result<(Option<Box<Expr>>, u16, &'a [Token]), Stop>
-    ensures exact { Exact (one g.given) continues_argument depth tokens.now (seen given_expr result) }
+) -> Result<(Option<Expr>, u16, &'a [Token]), Stop>
+    ensures exact { Exact (one g.given) continues_argument depth tokens.now (seen maybe_expr result) }
     ensures shorter { IfOk result (λ r. length r.2.now ≤ length tokens.now) }
     ensures low { IfOk result (λ r. r.1 ≤ depth + 1) }
 {
     match strip(tokens, TokenKind::Assign) {
         Some((_assign, behind)) => match level(alloc, Level::Or, Mode::Free, behind, depth) {
-            Ok((e, height, rest)) => Ok((type_nodes::boxed(alloc, e)?, height, rest)),
+            Ok((e, height, rest)) => Ok((Some(e), height, rest)),
             Err(error) => Err(error),
         },
         None => Ok((None, 0, tokens)),

@@ -6,18 +6,16 @@ ghost use Rattle.odc_syntax.specs.declared.token.TokenKind.TheVariants as kind;
 ghost use Rattle.odc_syntax.specs.declared.grammar.Mode.TheVariants as modes;
 ghost use Rattle.odc_syntax.specs.Derives.{StartsWithout};
 ghost use Rattle.odc_syntax.specs.Grammar as g;
-ghost use Rattle.odc_syntax.specs.View.{expr, stmt};
-ghost use Rattle.odc_nodes.specs.Given.{maybe};
-ghost use Rattle.odc_nodes.specs.StmtViews.{header_of};
-ghost use Rattle.odc_parse_base.specs.Exact.{Exact, Found, one};
-ghost use Rattle.odc_parse_base.specs.Headers.{HeadExpression};
+ghost use Rattle.odc_syntax.specs.View.{expr, stmt, maybe_expr, header_of};
+ghost use Rattle.odc_lookahead.specs.Exact.{Exact, Found, one};
+ghost use Rattle.odc_lookahead.specs.Headers.{HeadExpression};
 ghost use Rattle.odc_parse_expr.specs.LoopForms.{end_of, steps_of, loop_of, BeginsBody, FrontIs, LoopStart, LoopClosed, LoopCondition, ConditionRead};
-ghost use Rattle.odc_parse_base.specs.LoopStarts.{Signed, Ranged, MoreNames, OneOver, MoreOver, NameBefore, NoNameBefore, asks, cost, list_cost, goes_one};
-ghost use Rattle.odc_parse_base.specs.Loops.{steps_line, after_line};
-ghost use Rattle.odc_parse_base.specs.Read.{seen, refused};
-ghost use Rattle.odc_parse_base.specs.Sets.{starts_suffix};
-ghost use Rattle.odc_parse_base.specs.Statements.{LabelledRead, labelled_part, labelled_node};
-ghost use Rattle.odc_parse_base.specs.StatementSets.{continues_statement, continues_simple, EndsClause};
+ghost use Rattle.odc_lookahead.specs.LoopStarts.{Signed, Ranged, MoreNames, OneOver, MoreOver, NameBefore, NoNameBefore, asks, cost, list_cost, goes_one};
+ghost use Rattle.odc_lookahead.specs.Loops.{steps_line, after_line};
+ghost use Rattle.odc_lookahead.specs.Read.{seen, refused};
+ghost use Rattle.odc_lookahead.specs.Sets.{starts_suffix};
+ghost use Rattle.odc_lookahead.specs.Statements.{LabelledRead, labelled_part, labelled_node};
+ghost use Rattle.odc_lookahead.specs.StatementSets.{continues_statement, continues_simple, EndsClause};
 
 use crate::binary::level;
 use crate::block::{body, body_over, stands_at};
@@ -28,13 +26,16 @@ use crate::runs::{NamesEnd, names_in};
 use crate::simple::{nothing_fits, simple, simple_from};
 use crate::spans::span;
 use crate::unary::unary;
-use odc_nodes::{loop_nodes, nodes, stmt_nodes, switch_nodes};
-use odc_parse_base::stop::Stop;
-use odc_parse_base::tokens::{expect, first, same_kind, strip, within};
+use odc_lookahead::stop::Stop;
+use odc_lookahead::tokens::{expect, first, same_kind, strip, within};
+use odc_nodes::{loop_nodes, stmt_nodes};
 use odc_syntax::grammar::{Level, Mode};
 use odc_syntax::token::{Token, TokenKind};
 use odc_syntax::tree::{Expr, Header, RangeNames, Span, Stmt};
 use odc_text::place::Place;
+use odc_tree::discard::{
+    discard_expr, discard_header, discard_optional_expr, discard_span, discard_stmt,
+};
 use std::alloc::{AllocError, Global};
 
 /// What is done behind the body of a loop, and its body.
@@ -337,7 +338,7 @@ fn no_operand(alloc: Global, tokens: &[Token]) -> Stop
     ensures { Exact (one (g.unary modes.Header)) (starts_suffix modes.Header) 0 tokens.now (refused result) }
 {
     match unary(alloc, Mode::Header, tokens, 0) {
-        Ok((e, _height, _rest)) => nodes::discard(e, Stop::Memory),
+        Ok((e, _height, _rest)) => discard_expr(e, Stop::Memory),
         Err(error) => error,
     }
 }
@@ -360,11 +361,11 @@ fn over<'a>(
         Err(error) => return Err(error),
     };
     if n > u16::from(depth) {
-        return Err(switch_nodes::discard_span(value, body_over(rest)));
+        return Err(discard_span(value, body_over(rest)));
     }
     match body(alloc, rest, depth) {
         Ok((block, m, after)) => Ok((Loop::Range(names, value, block), n.max(m), after)),
-        Err(error) => Err(switch_nodes::discard_span(value, error)),
+        Err(error) => Err(discard_span(value, error)),
     }
 }
 
@@ -384,7 +385,7 @@ fn clause<'a>(
     match names_in(tokens) {
         NamesEnd::Declared => match declaration(alloc, Mode::Header, tokens, depth) {
             Ok((d, n, rest)) => {
-                let header = stmt_nodes::declared(alloc, d)?;
+                let header = Header::Decl(d);
                 closed(alloc, token, header, n, rest, depth)
             }
             Err(error) => Err(error),
@@ -395,7 +396,7 @@ fn clause<'a>(
             }
             match simple(alloc, Mode::Header, tokens, depth) {
                 Ok((s, n, rest)) => {
-                    let header = stmt_nodes::assigned(alloc, s)?;
+                    let header = Header::Simple(s);
                     closed(alloc, token, header, n, rest, depth)
                 }
                 Err(error) => Err(error),
@@ -423,7 +424,7 @@ fn list<'a>(
 {
     match simple(alloc, Mode::Header, tokens, depth) {
         Ok((s, n, rest)) => {
-            let header = stmt_nodes::assigned(alloc, s)?;
+            let header = Header::Simple(s);
             closed(alloc, token, header, n, rest, depth)
         }
         Err(error) => Err(error),
@@ -450,7 +451,7 @@ fn behind_expression<'a>(
         None => return with_condition(alloc, token, e, height, tokens, depth),
     };
     if height >= u16::from(depth) {
-        return Err(nodes::discard(e, Stop::Deep(behind.len())));
+        return Err(discard_expr(e, Stop::Deep(behind.len())));
     }
     if same_kind(next.kind, TokenKind::Semicolon) {
         let header = stmt_nodes::evaluated(alloc, e)?;
@@ -458,7 +459,7 @@ fn behind_expression<'a>(
     }
     match simple_from(alloc, Mode::Header, e, height, tokens, depth - 1) {
         Ok((s, n, rest)) => {
-            let header = stmt_nodes::assigned(alloc, s)?;
+            let header = Header::Simple(s);
             closed(alloc, token, header, n, rest, depth)
         }
         Err(error) => Err(error),
@@ -481,11 +482,11 @@ fn with_condition<'a>(
     ensures low { height ≤ depth + 1 → IfOk result (λ r. r.1 ≤ depth + 1) }
 {
     if height > u16::from(depth) {
-        return Err(nodes::discard(e, body_over(tokens)));
+        return Err(discard_expr(e, body_over(tokens)));
     }
     match body(alloc, tokens, depth) {
         Ok((block, n, rest)) => Ok((Loop::While(e, block), height.max(n), rest)),
-        Err(error) => Err(nodes::discard(e, error)),
+        Err(error) => Err(discard_expr(e, error)),
     }
 }
 
@@ -506,7 +507,7 @@ fn closed<'a>(
 {
     match expect(tokens, TokenKind::Semicolon, within(height, depth)) {
         Ok((_semicolon, rest)) => stepped(alloc, token, header, height, rest, depth),
-        Err(error) => Err(stmt_nodes::discard_header(header, error)),
+        Err(error) => Err(discard_header(header, error)),
     }
 }
 
@@ -527,7 +528,7 @@ fn stepped<'a>(
 {
     match steps(alloc, tokens, depth) {
         Ok((read, n, rest)) => Ok((Loop::Steps(header, read), height.max(n), rest)),
-        Err(error) => Err(stmt_nodes::discard_header(header, error)),
+        Err(error) => Err(discard_header(header, error)),
     }
 }
 
@@ -563,7 +564,7 @@ fn behind_condition<'a>(
     tokens: &'a [Token],
     depth: u8,
 ) -> Result<(LoopSteps, u16, &'a [Token]), Stop>
-    ensures exact { (ts : List TokenValue) → ConditionRead depth ts (maybe condition) height tokens.now → Exact steps_line continues_statement depth ts (seen steps_of result) }
+    ensures exact { (ts : List TokenValue) → ConditionRead depth ts (maybe_expr condition) height tokens.now → Exact steps_line continues_statement depth ts (seen steps_of result) }
     ensures shorter { IfOk result (λ r. length r.2.now ≤ length tokens.now) }
     ensures low { IfOk result (λ r. r.1 ≤ depth + 1) }
 {
@@ -577,9 +578,9 @@ fn behind_condition<'a>(
                 };
                 Ok((read, height.max(n), rest))
             }
-            Err(error) => Err(switch_nodes::discard_value(condition, error)),
+            Err(error) => Err(discard_optional_expr(condition, error)),
         },
-        Err(error) => Err(switch_nodes::discard_value(condition, error)),
+        Err(error) => Err(discard_optional_expr(condition, error)),
     }
 }
 
@@ -629,7 +630,7 @@ fn behind_step<'a>(
     ensures low { height ≤ depth + 1 → IfOk result (λ r. r.1 ≤ depth + 1) }
 {
     if height > u16::from(depth) {
-        return Err(stmt_nodes::discard_stmt(s, body_over(tokens)));
+        return Err(discard_stmt(s, body_over(tokens)));
     }
     match body(alloc, tokens, depth) {
         Ok((block, n, after)) => {
@@ -639,7 +640,7 @@ fn behind_step<'a>(
             };
             Ok((end, height.max(n), after))
         }
-        Err(error) => Err(stmt_nodes::discard_stmt(s, error)),
+        Err(error) => Err(discard_stmt(s, error)),
     }
 }
 
@@ -661,6 +662,8 @@ fn built(alloc: Global, label: Option<Token>, at: Place, read: Loop) -> Result<S
             let LoopEnd { step, body } = end;
             loop_nodes::repeat(alloc, label, at, header, condition, step, body)
         }
-        Loop::Range(names, value, block) => Ok(loop_nodes::range(label, at, names, value, block)),
+        Loop::Range(names, value, block) => loop_nodes::range(
+            alloc, label, at, names, value, block,
+        ),
     }
 }

@@ -3,24 +3,25 @@
 ghost use Rattle.std.specs.Prelude.{◌≡◌, ◌∷◌, ◌<◌, ◌≤◌, ◌+◌, ◌↔◌, suc, length, IsTrue, IfOk, None};
 ghost use Rattle.odc_syntax.specs.Grammar as g;
 ghost use Rattle.odc_syntax.specs.View.{expr};
-ghost use Rattle.odc_parse_base.specs.Ends.{ExactTo, seen_to};
-ghost use Rattle.odc_parse_base.specs.Exact.{one};
-ghost use Rattle.odc_parse_base.specs.Forms.{operand_form, leaf_of, leaf_view};
-ghost use Rattle.odc_parse_base.specs.Sets.{nothing_continues};
-ghost use Rattle.odc_parse_base.specs.declared.operand.OperandForm.TheVariants as forms;
+ghost use Rattle.odc_lookahead.specs.Ends.{ExactTo, seen_to};
+ghost use Rattle.odc_lookahead.specs.Exact.{one};
+ghost use Rattle.odc_lookahead.specs.Forms.{operand_form, leaf_of, leaf_view};
+ghost use Rattle.odc_lookahead.specs.Sets.{nothing_continues};
+ghost use Rattle.odc_lookahead.specs.declared.operand.OperandForm.TheVariants as forms;
 
 use crate::arguments::{ArgumentList, arguments};
 use crate::binary::level;
 use crate::procedure::procedure;
 use crate::types::constructed;
+use odc_lookahead::end::End;
+use odc_lookahead::operand::{OperandForm, operand_form};
+use odc_lookahead::stop::Stop;
+use odc_lookahead::tokens::{expect, first, within};
 use odc_nodes::nodes;
-use odc_parse_base::end::End;
-use odc_parse_base::operand::{OperandForm, operand_form};
-use odc_parse_base::stop::Stop;
-use odc_parse_base::tokens::{expect, first, within};
 use odc_syntax::grammar::{Level, Mode, Use};
 use odc_syntax::token::{Token, TokenKind};
 use odc_syntax::tree::{Expr, ExprKind};
+use odc_tree::discard::discard_expr;
 use std::alloc::Global;
 
 /// An operand.
@@ -47,7 +48,7 @@ pub fn operand<'a>(
         return Err(Stop::Deep(behind.len()));
     }
     match leaf_kind(form, token) {
-        Some(kind) => Ok((nodes::leaf(token.at, kind), 1, behind, End::Sure)),
+        Some(kind) => Ok((nodes::leaf(alloc, token.at, kind)?, 1, behind, End::Sure)),
         None => compound(alloc, mode, form, tokens, token, behind, depth - 1),
     }
 }
@@ -106,7 +107,7 @@ fn compound<'a>(
     match form {
         OperandForm::Dot => match expect(behind, TokenKind::Name, true) {
             Ok((name, rest)) => Ok((
-                nodes::leaf(token.at, ExprKind::Dot(name)),
+                nodes::leaf(alloc, token.at, ExprKind::Dot(name))?,
                 1,
                 rest,
                 End::Sure,
@@ -117,7 +118,12 @@ fn compound<'a>(
         OperandForm::Literal => match arguments(alloc, TokenKind::CloseBrace, behind, depth) {
             Ok((list, height, rest)) => {
                 let ArgumentList { args, close: _ } = list;
-                Ok((nodes::literal(token.at, args), height + 1, rest, End::Sure))
+                Ok((
+                    nodes::literal(alloc, token.at, args)?,
+                    height + 1,
+                    rest,
+                    End::Sure,
+                ))
             }
             Err(error) => Err(error),
         },
@@ -151,6 +157,6 @@ fn group<'a>(
     };
     match expect(after, TokenKind::CloseParen, within(height, depth)) {
         Ok((_close, rest)) => Ok((nodes::open(paren.at, e), height + 1, rest, End::Sure)),
-        Err(error) => Err(nodes::discard(e, error)),
+        Err(error) => Err(discard_expr(e, error)),
     }
 }

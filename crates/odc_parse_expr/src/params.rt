@@ -6,27 +6,30 @@ ghost use Rattle.odc_syntax.specs.declared.grammar.Use.TheVariants.{Parameter};
 ghost use Rattle.odc_syntax.specs.declared.token.Token.{Token as SpecToken};
 ghost use Rattle.odc_syntax.specs.declared.token.TokenKind.TheVariants as kind;
 ghost use Rattle.odc_syntax.specs.Derives.{StartsWithout};
-ghost use Rattle.odc_parse_base.specs.Ends.{closed_by};
-ghost use Rattle.odc_parse_base.specs.Exact.{Exact, one};
-ghost use Rattle.odc_parse_base.specs.ParamForms.{Front, Blocked, Crossed};
-ghost use Rattle.odc_parse_base.specs.Read.{seen};
-ghost use Rattle.odc_parse_base.specs.Sets.{continues_argument, nothing_continues};
-ghost use Rattle.odc_parse_base.specs.TypeParts.{params_line, named_line, bare_line, typed_line, typed_by};
-ghost use Rattle.odc_nodes.specs.TypeViews.{param, params};
+ghost use Rattle.odc_lookahead.specs.Ends.{closed_by};
+ghost use Rattle.odc_lookahead.specs.Exact.{Exact, one};
+ghost use Rattle.odc_lookahead.specs.ParamForms.{Front, Crossed};
+ghost use Rattle.odc_lookahead.specs.Runs.{Undeclared};
+ghost use Rattle.odc_lookahead.specs.Read.{seen};
+ghost use Rattle.odc_lookahead.specs.Sets.{continues_argument, nothing_continues};
+ghost use Rattle.odc_lookahead.specs.TypeParts.{params_line, named_line, bare_line, typed_line, typed_by};
+ghost use Rattle.odc_syntax.specs.View.{param, params};
 
 use crate::binary::level;
 use crate::fields::given;
 use crate::types::ty;
+use odc_lookahead::end::inside;
+use odc_lookahead::lists::after_item;
+use odc_lookahead::name_lists::{behind_dollar, names, names_end, strip_int};
+use odc_lookahead::shape::strip_dollar;
+use odc_lookahead::stop::Stop;
+use odc_lookahead::tokens::{strip, within};
 use odc_nodes::type_nodes;
-use odc_parse_base::end::inside;
-use odc_parse_base::lists::after_item;
-use odc_parse_base::name_lists::{behind_dollar, blocked, names, strip_int};
-use odc_parse_base::shape::strip_dollar;
-use odc_parse_base::stop::Stop;
-use odc_parse_base::tokens::{strip, within};
 use odc_syntax::grammar::{Level, Mode, Use};
 use odc_syntax::token::{Token, TokenKind};
 use odc_syntax::tree::{Expr, Param, Type};
+use odc_tree::discard::{discard_params, discard_type};
+use odc_tree::list::push_param;
 use std::alloc::Global;
 
 /// Parameters between commas, up to the closing parenthesis.
@@ -41,9 +44,9 @@ pub fn params<'a>(
     ensures shorter { IfOk result (λ r. length r.3.now < length tokens.now) }
     ensures low { IfOk result (λ r. r.2 ≤ depth) }
 {
-    match blocked(behind_dollar(inside(used), tokens)) {
-        None => named_list(alloc, used, tokens, depth),
-        Some(at) => {
+    match names_end(behind_dollar(inside(used), tokens)) {
+        Ok(_after) => named_list(alloc, used, tokens, depth),
+        Err(at) => {
             if at.len() == tokens.len() {
                 return bare_list(alloc, used, tokens, depth);
             }
@@ -64,12 +67,12 @@ fn crossed<'a>(
     tokens: &'a [Token],
     at: &'a [Token],
 ) -> Result<(Vec<Param>, Token, u16, &'a [Token]), Stop>
-    ensures exact { (us : List SpecToken) → Front (g.inside used) tokens.now us → Blocked us at.now → length at.now < length tokens.now → Exact (params_line (g.inside used)) nothing_continues 0 tokens.now (closed_by (λ l. params l.items) result) }
+    ensures exact { (us : List SpecToken) → Front (g.inside used) tokens.now us → Undeclared us at.now → length at.now < length tokens.now → Exact (params_line (g.inside used)) nothing_continues 0 tokens.now (closed_by (λ l. params l.items) result) }
     ensures shorter { IfOk result (λ r. length r.3.now < length tokens.now) }
     ensures low { IfOk result (λ r. r.2 ≤ 0) }
 {
     match bare_list(alloc, used, tokens, 1) {
-        Ok((list, _close, _height, _rest)) => Err(type_nodes::discard_params(
+        Ok((list, _close, _height, _rest)) => Err(discard_params(
             list,
             Stop::Deep(at.len().saturating_sub(1)),
         )),
@@ -113,13 +116,13 @@ fn named_list<'a>(
     'items: loop {
         let (item, n, after) = match named(alloc, used, rest, depth) {
             Ok(read) => read,
-            Err(error) => return Err(type_nodes::discard_params(list, error)),
+            Err(error) => return Err(discard_params(list, error)),
         };
-        list = type_nodes::push_param(list, item)?;
+        list = push_param(list, item)?;
         height = height.max(n);
         let (end, behind) = match after_item(after, TokenKind::CloseParen, within(height, depth)) {
             Ok(found) => found,
-            Err(error) => return Err(type_nodes::discard_params(list, error)),
+            Err(error) => return Err(discard_params(list, error)),
         };
         match end {
             Some(close) => return Ok((list, close, height, behind)),
@@ -149,13 +152,13 @@ fn bare_list<'a>(
     'items: loop {
         let (item, n, after) = match bare(alloc, used, rest, depth) {
             Ok(read) => read,
-            Err(error) => return Err(type_nodes::discard_params(list, error)),
+            Err(error) => return Err(discard_params(list, error)),
         };
-        list = type_nodes::push_param(list, item)?;
+        list = push_param(list, item)?;
         height = height.max(n);
         let (end, behind) = match after_item(after, TokenKind::CloseParen, within(height, depth)) {
             Ok(found) => found,
-            Err(error) => return Err(type_nodes::discard_params(list, error)),
+            Err(error) => return Err(discard_params(list, error)),
         };
         match end {
             Some(close) => return Ok((list, close, height, behind)),
@@ -177,7 +180,7 @@ fn bare<'a>(
     ensures low { IfOk result (λ r. r.1 ≤ depth + 1) }
 {
     match ty(alloc, used, tokens, depth) {
-        Ok((t, height, rest)) => Ok((type_nodes::bare_param(alloc, t)?, height, rest)),
+        Ok((t, height, rest)) => Ok((type_nodes::bare_param(alloc, t), height, rest)),
         Err(error) => Err(error),
     }
 }
@@ -225,18 +228,12 @@ fn plain<'a>(
         },
         None => match strip(after, TokenKind::Assign) {
             Some((_assign, behind)) => match level(alloc, Level::Or, Mode::Free, behind, depth) {
-                Ok((e, height, rest)) => {
-                    Ok((type_nodes::inferred_param(alloc, list, e)?, height, rest))
-                }
+                Ok((e, height, rest)) => { Ok((type_nodes::inferred_param(list, e), height, rest)) }
                 Err(error) => Err(error),
             },
             None => match typed(alloc, used, after, depth) {
                 Ok((t, default, height, rest)) => {
-                    Ok((
-                        type_nodes::typed_param(alloc, list, t, default)?,
-                        height,
-                        rest,
-                    ))
+                    Ok((type_nodes::typed_param(list, t, default), height, rest))
                 }
                 Err(error) => Err(error),
             },
@@ -251,7 +248,7 @@ fn typed<'a>(
     used: Use,
     tokens: &'a [Token],
     depth: u8,
-) -> Result<(Type, Option<Box<Expr>>, u16, &'a [Token]), Stop>
+) -> Result<(Type, Option<Expr>, u16, &'a [Token]), Stop>
     ensures exact { Exact (typed_line (g.inside used)) continues_argument depth tokens.now (typed_by result) }
     ensures shorter { IfOk result (λ r. length r.3.now < length tokens.now) }
     ensures low { IfOk result (λ r. r.2 ≤ depth + 1) }
@@ -262,7 +259,7 @@ fn typed<'a>(
     };
     match given(alloc, behind, depth) {
         Ok((default, m, rest)) => Ok((t, default, n.max(m), rest)),
-        Err(error) => Err(type_nodes::discard_type(t, error)),
+        Err(error) => Err(discard_type(t, error)),
     }
 }
 

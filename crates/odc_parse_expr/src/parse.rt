@@ -5,17 +5,17 @@ ghost use Rattle.odc_syntax.specs.Grammar.{expression};
 ghost use Rattle.odc_syntax.specs.Grammar as g;
 ghost use Rattle.odc_syntax.specs.View.{expr, decl};
 ghost use Rattle.odc_syntax.specs.declared.grammar.Mode.TheVariants.{Free};
-ghost use Rattle.odc_parse_base.specs.Law.{IsRead};
-ghost use Rattle.odc_parse_base.specs.Blame.{NotRead};
+ghost use Rattle.odc_lookahead.specs.Law.{IsRead};
+ghost use Rattle.odc_lookahead.specs.Blame.{NotRead};
 
 use crate::binary::level;
 use crate::declaration::declaration;
-use odc_nodes::{nodes, stmt_nodes};
-use odc_parse_base::blame::{end_of, stopped};
-use odc_parse_base::error::ParseError;
+use odc_lookahead::blame::{end_of, stopped};
+use odc_lookahead::error::ParseError;
 use odc_syntax::grammar::{Level, Mode};
 use odc_syntax::token::{Token, Tokens};
 use odc_syntax::tree::{Decl, Expr};
+use odc_tree::discard::{discard_decl, discard_expr};
 use std::alloc::Global;
 
 /// A tree, and the position of the token behind it.
@@ -33,7 +33,7 @@ pub fn parse_expr(alloc: Global, t: &Tokens, from: usize) -> Result<Parsed<Expr>
     match level(alloc, Level::Or, Mode::Free, tokens_from(t, from), 200) {
         Ok((tree, depth, rest)) => match end_of(t, from, depth, rest.len()) {
             Ok(next) => Ok(Parsed { tree, next }),
-            Err(fault) => Err(nodes::discard(tree, ParseError::Fault(fault))),
+            Err(fault) => Err(discard_expr(tree, ParseError::Fault(fault))),
         },
         Err(stop) => Err(stopped(t, from, stop)),
     }
@@ -48,7 +48,7 @@ pub fn parse_decl(alloc: Global, t: &Tokens, from: usize) -> Result<Parsed<Decl>
     match declaration(alloc, Mode::Free, tokens_from(t, from), 200) {
         Ok((tree, depth, rest)) => match end_of(t, from, depth, rest.len()) {
             Ok(next) => Ok(Parsed { tree, next }),
-            Err(fault) => Err(stmt_nodes::discard_decl(tree, ParseError::Fault(fault))),
+            Err(fault) => Err(discard_decl(tree, ParseError::Fault(fault))),
         },
         Err(stop) => Err(stopped(t, from, stop)),
     }

@@ -5,26 +5,27 @@ ghost use Rattle.odc_syntax.specs.Grammar as g;
 ghost use Rattle.odc_syntax.specs.Grammar.{suffixed};
 ghost use Rattle.odc_syntax.specs.View.{expr};
 ghost use Rattle.odc_syntax.specs.declared.token.TokenKind.TheVariants as kind;
-ghost use Rattle.odc_parse_base.specs.Exact.{Exact, one};
-ghost use Rattle.odc_parse_base.specs.Forms.{suffix_form};
-ghost use Rattle.odc_parse_base.specs.Parts.{high_line};
-ghost use Rattle.odc_parse_base.specs.Read.{seen};
-ghost use Rattle.odc_parse_base.specs.Sets.{starts_suffix, nothing_continues};
+ghost use Rattle.odc_lookahead.specs.Exact.{Exact, one};
+ghost use Rattle.odc_lookahead.specs.Forms.{suffix_form};
+ghost use Rattle.odc_lookahead.specs.Parts.{high_line};
+ghost use Rattle.odc_lookahead.specs.Read.{seen};
+ghost use Rattle.odc_lookahead.specs.Sets.{starts_suffix, nothing_continues};
 ghost use Rattle.odc_parse_expr.specs.Suffixes.{suffix, high_of};
 
 use crate::arguments::{ArgumentList, arguments};
 use crate::binary::level;
 use crate::operand::operand;
 use crate::types::ty;
+use odc_lookahead::end::{End, over};
+use odc_lookahead::stop::Stop;
+use odc_lookahead::suffix::{SuffixForm, next_suffix};
+use odc_lookahead::tokens::{expect, strip, within};
 use odc_nodes::nodes;
-use odc_parse_base::end::{End, over};
-use odc_parse_base::stop::Stop;
-use odc_parse_base::suffix::{SuffixForm, next_suffix};
-use odc_parse_base::tokens::{expect, strip, within};
 use odc_syntax::grammar::{Level, Mode, Use};
 use odc_syntax::token::{Token, TokenKind};
 use odc_syntax::tree::{Arg, Expr, Type};
 use odc_text::place::Place;
+use odc_tree::discard::{discard_expr, discard_type};
 use std::alloc::{AllocError, Global};
 
 /// What stands behind an operand, with the place of its first token where the node has that place.
@@ -65,11 +66,11 @@ pub fn postfix<'a>(
     };
     while let Some((form, token, behind)) = next_suffix(mode, rest) {
         if height >= u16::from(depth) {
-            return Err(nodes::discard(e, over(end, behind)));
+            return Err(discard_expr(e, over(end, behind)));
         }
         let (s, n, after) = match read_suffix(alloc, mode, form, token, behind, depth - 1) {
             Ok(read) => read,
-            Err(error) => return Err(nodes::discard(e, error)),
+            Err(error) => return Err(discard_expr(e, error)),
         };
         e = applied(alloc, e, s)?;
         height = height.max(n) + 1;
@@ -142,7 +143,7 @@ fn member<'a>(
     };
     match expect(after, TokenKind::CloseParen, within(height, depth)) {
         Ok((_close, rest)) => Ok((Suffix::Assert(dot.at, t), height, rest)),
-        Err(error) => Err(nodes::discard_type(t, error)),
+        Err(error) => Err(discard_type(t, error)),
     }
 }
 
@@ -176,18 +177,18 @@ fn bracket<'a>(
         if n <= u16::from(depth) {
             return Ok((Suffix::Index(bracket.at, e), n, rest));
         }
-        return Err(nodes::discard(e, Stop::Deep(rest.len())));
+        return Err(discard_expr(e, Stop::Deep(rest.len())));
     }
     let (_colon, rest) = match expect(after, TokenKind::Colon, within(n, depth)) {
         Ok(found) => found,
-        Err(error) => return Err(nodes::discard(e, error)),
+        Err(error) => return Err(discard_expr(e, error)),
     };
     match high(alloc, rest, depth) {
         Ok((end, m, last)) => {
             let HighEnd { value, close: _ } = end;
             Ok((Suffix::Cut(bracket.at, Some(e), value), n.max(m), last))
         }
-        Err(error) => Err(nodes::discard(e, error)),
+        Err(error) => Err(discard_expr(e, error)),
     }
 }
 
@@ -224,7 +225,7 @@ fn high<'a>(
             height,
             rest,
         )),
-        Err(error) => Err(nodes::discard(e, error)),
+        Err(error) => Err(discard_expr(e, error)),
     }
 }
 

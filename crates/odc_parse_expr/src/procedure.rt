@@ -2,27 +2,27 @@
 
 ghost use Rattle.std.specs.Prelude.{◌≡◌, ◌∷◌, ◌<◌, ◌≤◌, ◌+◌, List, suc, length, true, false, IfOk};
 ghost use Rattle.odc_syntax.specs.Grammar as g;
-ghost use Rattle.odc_syntax.specs.View.{expr};
+ghost use Rattle.odc_syntax.specs.View.{expr, signature};
 ghost use Rattle.odc_syntax.specs.declared.grammar.Mode.TheVariants.{Free};
 ghost use Rattle.odc_syntax.specs.declared.grammar.Use.TheVariants.{Operand};
 ghost use Rattle.odc_syntax.specs.declared.token.Token.{Token as SpecToken};
 ghost use Rattle.odc_syntax.specs.declared.token.TokenKind.TheVariants as kind;
-ghost use Rattle.odc_parse_base.specs.Ends.{ExactTo, seen_to};
-ghost use Rattle.odc_parse_base.specs.Exact.{Exact, Found, one};
-ghost use Rattle.odc_parse_base.specs.Read.{StartsWith, seen};
-ghost use Rattle.odc_parse_base.specs.Sets.{nothing_continues};
-ghost use Rattle.odc_nodes.specs.TypeViews.{signature};
+ghost use Rattle.odc_lookahead.specs.Ends.{ExactTo, seen_to};
+ghost use Rattle.odc_lookahead.specs.Exact.{Exact, Found, one};
+ghost use Rattle.odc_lookahead.specs.Read.{StartsWith, seen};
+ghost use Rattle.odc_lookahead.specs.Sets.{nothing_continues};
 
 use crate::block::block;
 use crate::signatures::signature;
+use odc_lookahead::end::End;
+use odc_lookahead::operators::takes_braces;
+use odc_lookahead::stop::Stop;
+use odc_lookahead::tokens::strip;
 use odc_nodes::type_nodes;
-use odc_parse_base::end::End;
-use odc_parse_base::operators::takes_braces;
-use odc_parse_base::stop::Stop;
-use odc_parse_base::tokens::strip;
 use odc_syntax::grammar::{Mode, Use};
 use odc_syntax::token::{Token, TokenKind};
 use odc_syntax::tree::{Expr, Signature};
+use odc_tree::discard::discard_signature;
 use std::alloc::Global;
 
 /// A procedure with its body, or its type, whose parts may have this depth.
@@ -65,7 +65,7 @@ fn lambda<'a>(
             if takes_braces(mode) {
                 with_body(alloc, s, height, rest, depth)
             } else {
-                Err(type_nodes::discard_signature(s, Stop::Syntax(rest.len())))
+                Err(discard_signature(s, Stop::Syntax(rest.len())))
             }
         }
         None => Ok((type_nodes::proc_type(alloc, s)?, height + 2, rest, end)),
@@ -93,6 +93,6 @@ fn with_body<'a>(
             rest,
             End::Sure,
         )),
-        Err(error) => Err(type_nodes::discard_signature(s, error)),
+        Err(error) => Err(discard_signature(s, error)),
     }
 }

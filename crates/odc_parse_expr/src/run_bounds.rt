@@ -3,12 +3,12 @@
 ghost use Rattle.std.specs.Prelude.{List, ◌≡◌, ◌∷◌, true, IfSome, IfNone};
 ghost use Rattle.odc_syntax.specs.declared.token.Token.{Token as TokenValue};
 ghost use Rattle.odc_syntax.specs.declared.token.TokenKind.TheVariants as kind;
-ghost use Rattle.odc_parse_base.specs.RunBounds.{Run, LastOver, RunOver, continues_closed, EndsClosed};
+ghost use Rattle.odc_lookahead.specs.RunBounds.{Run, LastOver, RunOver, continues_closed, EndsClosed};
 
 use crate::simple::{assignment_of, nothing_fits};
-use odc_parse_base::operators::goes_on;
-use odc_parse_base::stop::Stop;
-use odc_parse_base::tokens::{first, strip};
+use odc_lookahead::operators::goes_on;
+use odc_lookahead::stop::Stop;
+use odc_lookahead::tokens::{first, strip};
 use odc_syntax::grammar::Mode;
 use odc_syntax::token::{Token, TokenKind};
 use std::alloc::Global;

@@ -1,33 +1,13 @@
 //! Names at the start of a statement.
 
-ghost use Rattle.std.specs.Prelude.{◌<◌, length, IfOk, IfErr, IfSome, IfNone};
-ghost use Rattle.odc_parse_base.specs.Runs.{Declares, Undeclared, Labels, NotLabelled};
+ghost use Rattle.std.specs.Prelude.{◌<◌, length, IfSome, IfNone};
+ghost use Rattle.odc_lookahead.specs.Runs.{Labels, NotLabelled};
 ghost use Rattle.odc_parse_expr.specs.Conditionals.{NamesIn};
 
-use odc_parse_base::statement_form::is_labelled;
-use odc_parse_base::tokens::{first, strip};
+use odc_lookahead::name_lists::names_end;
+use odc_lookahead::statement_form::is_labelled;
+use odc_lookahead::tokens::{first, strip};
 use odc_syntax::token::{Token, TokenKind};
-
-/// The tokens behind names between commas and a `:`; else those from where nothing is declared any more.
-pub fn names_end(tokens: &[Token]) -> Result<&[Token], &[Token]>
-    ensures declares { IfOk result (λ r. Declares tokens.now r.now) }
-    ensures undeclared { IfErr result (λ r. Undeclared tokens.now r.now) }
-{
-    let mut rest = tokens;
-    'names: loop {
-        let behind = match strip(rest, TokenKind::Name) {
-            Some((_name, behind)) => behind,
-            None => return Err(rest),
-        };
-        if let Some((_colon, after)) = strip(behind, TokenKind::Colon) {
-            return Ok(after);
-        }
-        match strip(behind, TokenKind::Comma) {
-            Some((_comma, after)) => rest = after,
-            None => return Err(behind),
-        }
-    }
-}
 
 /// A label, and the tokens behind its `:`.
 pub fn label(tokens: &[Token]) -> Option<(Token, &[Token])>

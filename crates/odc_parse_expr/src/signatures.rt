@@ -2,23 +2,23 @@
 
 ghost use Rattle.std.specs.Prelude.{◌≡◌, ◌∷◌, ◌<◌, ◌≤◌, ◌+◌, ℕ, suc, length, IfOk};
 ghost use Rattle.odc_syntax.specs.Grammar as g;
-ghost use Rattle.odc_syntax.specs.View.{result_kind};
+ghost use Rattle.odc_syntax.specs.View.{result_kind, params, signature};
 ghost use Rattle.odc_syntax.specs.declared.token.TokenKind.TheVariants as kind;
-ghost use Rattle.odc_parse_base.specs.Ends.{ExactAs, seen_to, closed_by};
-ghost use Rattle.odc_parse_base.specs.Exact.{Exact, one};
-ghost use Rattle.odc_parse_base.specs.Sets.{nothing_continues};
-ghost use Rattle.odc_parse_base.specs.TypeParts.{params_line, Convention};
-ghost use Rattle.odc_nodes.specs.TypeViews.{params, signature};
+ghost use Rattle.odc_lookahead.specs.Ends.{ExactAs, seen_to, closed_by};
+ghost use Rattle.odc_lookahead.specs.Exact.{Exact, one};
+ghost use Rattle.odc_lookahead.specs.Sets.{nothing_continues};
+ghost use Rattle.odc_lookahead.specs.TypeParts.{params_line, Convention};
 
 use crate::params::params;
 use crate::types::type_to;
+use odc_lookahead::end::{End, at_end};
+use odc_lookahead::stop::Stop;
+use odc_lookahead::tokens::{expect, strip};
 use odc_nodes::type_nodes;
-use odc_parse_base::end::{End, at_end};
-use odc_parse_base::stop::Stop;
-use odc_parse_base::tokens::{expect, strip};
 use odc_syntax::grammar::Use;
 use odc_syntax::token::{Token, TokenKind};
 use odc_syntax::tree::{Results, Signature};
+use odc_tree::discard::discard_params;
 use std::alloc::Global;
 
 /// A signature, from behind `proc`.
@@ -50,7 +50,7 @@ pub fn signature<'a>(
             last,
             end,
         )),
-        Err(error) => Err(type_nodes::discard_params(list, error)),
+        Err(error) => Err(discard_params(list, error)),
     }
 }
 
@@ -86,13 +86,13 @@ fn results<'a>(
             Some((_close, _last)) => Err(Stop::Syntax(inner.len())),
             None => match params(alloc, used, inner, depth) {
                 Ok((list, _close, height, rest)) => {
-                    Ok((type_nodes::listed(list), height, rest, End::Sure))
+                    Ok((Results::List(list), height, rest, End::Sure))
                 }
                 Err(error) => Err(error),
             },
         },
         None => match type_to(alloc, at_end(used), behind, depth) {
-            Ok((t, height, rest, end)) => Ok((type_nodes::one(alloc, t)?, height, rest, end)),
+            Ok((t, height, rest, end)) => Ok((Results::One(t), height, rest, end)),
             Err(error) => Err(error),
         },
     }

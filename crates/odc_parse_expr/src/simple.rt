@@ -6,20 +6,21 @@ ghost use Rattle.odc_syntax.specs.Grammar as g;
 ghost use Rattle.odc_syntax.specs.Operators.{assignment_of};
 ghost use Rattle.odc_syntax.specs.View.{expr, stmt};
 ghost use Rattle.odc_syntax.specs.declared.grammar.Level.TheVariants as levels;
-ghost use Rattle.odc_parse_base.specs.Exact.{Exact, Found, one};
-ghost use Rattle.odc_parse_base.specs.Read.{seen, refused};
-ghost use Rattle.odc_parse_base.specs.Sets.{continues};
-ghost use Rattle.odc_parse_base.specs.StatementSets.{continues_simple, NoAssignment};
+ghost use Rattle.odc_lookahead.specs.Exact.{Exact, Found, one};
+ghost use Rattle.odc_lookahead.specs.Read.{seen, refused};
+ghost use Rattle.odc_lookahead.specs.Sets.{continues};
+ghost use Rattle.odc_lookahead.specs.StatementSets.{continues_simple, NoAssignment};
 
 use crate::binary::level;
 use crate::exprs::{exprs, exprs_from};
-use odc_nodes::{nodes, stmt_nodes};
-use odc_parse_base::operators::later;
-use odc_parse_base::stop::Stop;
-use odc_parse_base::tokens::first;
+use odc_lookahead::operators::later;
+use odc_lookahead::stop::Stop;
+use odc_lookahead::tokens::first;
+use odc_nodes::stmt_nodes;
 use odc_syntax::grammar::{Level, Mode};
 use odc_syntax::token::{Token, TokenKind};
 use odc_syntax::tree::{AssignOp, BinaryOp, Expr, Stmt};
+use odc_tree::discard::{discard_expr, discard_exprs};
 use std::alloc::Global;
 
 /// An assignment, or expressions alone.
@@ -49,7 +50,7 @@ pub fn nothing_fits(alloc: Global, mode: Mode, tokens: &[Token]) -> Stop
     ensures exact { Exact (one (g.expression mode)) (continues levels.Or mode) 0 tokens.now (refused result) }
 {
     match level(alloc, Level::Or, mode, tokens, 0) {
-        Ok((e, _height, _rest)) => nodes::discard(e, Stop::Memory),
+        Ok((e, _height, _rest)) => discard_expr(e, Stop::Memory),
         Err(error) => error,
     }
 }
@@ -73,7 +74,7 @@ pub fn simple_from<'a>(
     // Nothing that is read is deeper, so that the sums below fit.
     let most = u16::from(depth) + 1;
     if height > most {
-        return Err(nodes::discard(first, Stop::Memory));
+        return Err(discard_expr(first, Stop::Memory));
     }
     let at = first.first;
     let (places, n, rest) = match exprs_from(alloc, mode, first, height, tokens, depth) {
@@ -82,18 +83,18 @@ pub fn simple_from<'a>(
     };
     let (op, token, behind) = match assignment(rest) {
         Some(found) => found,
-        None => return Ok((stmt_nodes::eval(at, places), n + 1, rest)),
+        None => return Ok((stmt_nodes::eval(alloc, at, places)?, n + 1, rest)),
     };
     if n > u16::from(depth) {
-        return Err(stmt_nodes::discard_exprs(places, Stop::Deep(behind.len())));
+        return Err(discard_exprs(places, Stop::Deep(behind.len())));
     }
     match exprs(alloc, later(mode), behind, depth) {
         Ok((values, m, after)) => Ok((
-            stmt_nodes::assign(token.at, places, op, values),
+            stmt_nodes::assign(alloc, token.at, places, op, values)?,
             n.max(m) + 1,
             after,
         )),
-        Err(error) => Err(stmt_nodes::discard_exprs(places, error)),
+        Err(error) => Err(discard_exprs(places, error)),
     }
 }
 

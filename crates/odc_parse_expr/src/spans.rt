@@ -3,24 +3,25 @@
 ghost use Rattle.std.specs.Prelude.{List, ◌<◌, ◌≤◌, ◌+◌, length, IfOk};
 ghost use Rattle.odc_syntax.specs.declared.token.Token.{Token as TokenValue};
 ghost use Rattle.odc_syntax.specs.Grammar as g;
-ghost use Rattle.odc_syntax.specs.View.{expr};
+ghost use Rattle.odc_syntax.specs.View.{expr, span_of};
 ghost use Rattle.odc_syntax.specs.declared.grammar.Level.TheVariants as levels;
 ghost use Rattle.odc_syntax.specs.declared.grammar.Mode.TheVariants as modes;
-ghost use Rattle.odc_nodes.specs.SwitchViews.{span_of};
-ghost use Rattle.odc_parse_base.specs.Exact.{Exact, Found, one};
-ghost use Rattle.odc_parse_base.specs.Read.{seen};
-ghost use Rattle.odc_parse_base.specs.Sets.{continues};
+ghost use Rattle.odc_lookahead.specs.Exact.{Exact, Found, one};
+ghost use Rattle.odc_lookahead.specs.Read.{seen};
+ghost use Rattle.odc_lookahead.specs.Sets.{continues};
 ghost use Rattle.odc_parse_expr.specs.SwitchForms.{span_list};
-ghost use Rattle.odc_parse_base.specs.SwitchSets.{continues_span, begins_items};
+ghost use Rattle.odc_lookahead.specs.SwitchSets.{continues_span, begins_items};
 
 use crate::binary::level;
 use crate::block::stands_at;
-use odc_nodes::{nodes, switch_nodes};
-use odc_parse_base::stop::Stop;
-use odc_parse_base::tokens::strip;
+use odc_lookahead::stop::Stop;
+use odc_lookahead::tokens::strip;
+use odc_nodes::switch_nodes;
 use odc_syntax::grammar::{Level, Mode};
 use odc_syntax::token::{Token, TokenKind};
 use odc_syntax::tree::{Expr, Span};
+use odc_tree::discard::{discard_expr, discard_spans};
+use odc_tree::list::push_span;
 use std::alloc::Global;
 
 /// A value, or the values from one to another.
@@ -58,20 +59,20 @@ fn span_from<'a>(
 {
     if let Some((_through, behind)) = strip(tokens, TokenKind::DotDotEqual) {
         if height > u16::from(depth) {
-            return Err(nodes::discard(from, Stop::Deep(behind.len())));
+            return Err(discard_expr(from, Stop::Deep(behind.len())));
         }
         return match level(alloc, Level::Or, mode, behind, depth) {
-            Ok((to, n, rest)) => Ok((switch_nodes::through(alloc, from, to)?, height.max(n), rest)),
-            Err(error) => Err(nodes::discard(from, error)),
+            Ok((to, n, rest)) => Ok((switch_nodes::through(from, to), height.max(n), rest)),
+            Err(error) => Err(discard_expr(from, error)),
         };
     }
     if let Some((_below, behind)) = strip(tokens, TokenKind::DotDotLess) {
         if height > u16::from(depth) {
-            return Err(nodes::discard(from, Stop::Deep(behind.len())));
+            return Err(discard_expr(from, Stop::Deep(behind.len())));
         }
         return match level(alloc, Level::Or, mode, behind, depth) {
-            Ok((to, n, rest)) => Ok((switch_nodes::below(alloc, from, to)?, height.max(n), rest)),
-            Err(error) => Err(nodes::discard(from, error)),
+            Ok((to, n, rest)) => Ok((switch_nodes::below(from, to), height.max(n), rest)),
+            Err(error) => Err(discard_expr(from, error)),
         };
     }
     Ok((switch_nodes::alone(from), height, tokens))
@@ -119,13 +120,13 @@ fn items_from<'a>(
     let mut rest = tokens;
     'items: while let Some((_comma, behind)) = strip(rest, TokenKind::Comma) {
         if top > u16::from(depth) {
-            return Err(switch_nodes::discard_spans(list, Stop::Deep(behind.len())));
+            return Err(discard_spans(list, Stop::Deep(behind.len())));
         }
         let (s, n, after) = match span(alloc, Mode::Free, behind, depth) {
             Ok(read) => read,
-            Err(error) => return Err(switch_nodes::discard_spans(list, error)),
+            Err(error) => return Err(discard_spans(list, error)),
         };
-        list = switch_nodes::push_span(list, s)?;
+        list = push_span(list, s)?;
         top = top.max(n);
         rest = after;
     }

@@ -4,31 +4,33 @@ ghost use Rattle.std.specs.Prelude.{◌≡◌, ◌∷◌, ◌<◌, ◌≤◌, �
 ghost use Rattle.odc_syntax.specs.Grammar as g;
 ghost use Rattle.odc_syntax.specs.View.{stmt};
 ghost use Rattle.odc_syntax.specs.declared.token.TokenKind.TheVariants as kind;
-ghost use Rattle.odc_parse_base.specs.declared.statement_form.StatementForm.TheVariants as forms;
-ghost use Rattle.odc_parse_base.specs.Exact.{Exact, one};
-ghost use Rattle.odc_parse_base.specs.Read.{seen, refused};
-ghost use Rattle.odc_parse_base.specs.Runs.{NotLabelled};
-ghost use Rattle.odc_parse_base.specs.StatementForms.{statement_form};
-ghost use Rattle.odc_parse_base.specs.Statements.{LabelledRead, labelled_part};
-ghost use Rattle.odc_parse_base.specs.StatementSets.{continues_statement, continues_simple, EndsSimple};
+ghost use Rattle.odc_lookahead.specs.declared.statement_form.StatementForm.TheVariants as forms;
+ghost use Rattle.odc_lookahead.specs.Exact.{Exact, one};
+ghost use Rattle.odc_lookahead.specs.Read.{seen, refused};
+ghost use Rattle.odc_lookahead.specs.Runs.{NotLabelled};
+ghost use Rattle.odc_lookahead.specs.StatementForms.{statement_form};
+ghost use Rattle.odc_lookahead.specs.Statements.{LabelledRead, labelled_part};
+ghost use Rattle.odc_lookahead.specs.StatementSets.{continues_statement, continues_simple, EndsSimple};
 
 use crate::block::{Braced, braces, stands_at};
 use crate::conditional::if_statement;
 use crate::declaration::declaration;
 use crate::exprs::exprs;
 use crate::loops::loop_statement;
-use crate::runs::{label, names_end};
+use crate::runs::label;
 use crate::simple::{assignment_of, simple};
 use crate::switches::switch_statement;
 use crate::types::ty;
+use odc_lookahead::name_lists::names_end;
+use odc_lookahead::operators::goes_on;
+use odc_lookahead::statement_form::{StatementForm, statement_form};
+use odc_lookahead::stop::Stop;
+use odc_lookahead::tokens::{first, same_kind, strip};
 use odc_nodes::{nodes, stmt_nodes};
-use odc_parse_base::operators::goes_on;
-use odc_parse_base::statement_form::{StatementForm, statement_form};
-use odc_parse_base::stop::Stop;
-use odc_parse_base::tokens::{first, same_kind, strip};
 use odc_syntax::grammar::{Mode, Use};
 use odc_syntax::token::{Token, TokenKind};
 use odc_syntax::tree::{ExprKind, Stmt, StmtKind};
+use odc_tree::discard::discard_type;
 use std::alloc::Global;
 
 /// A statement.
@@ -53,9 +55,9 @@ pub fn statement<'a>(
         StatementForm::Labelled => bare(alloc, token, behind, tokens, depth),
         StatementForm::Defer => defer(alloc, token, behind, depth),
         StatementForm::Return => returns(alloc, token, behind, depth),
-        StatementForm::Break => breaks(token, behind, depth),
-        StatementForm::Continue => continues(token, behind, depth),
-        StatementForm::Fallthrough => fallthrough(token, behind, depth),
+        StatementForm::Break => breaks(alloc, token, behind, depth),
+        StatementForm::Continue => continues(alloc, token, behind, depth),
+        StatementForm::Fallthrough => fallthrough(alloc, token, behind, depth),
     }
 }
 
@@ -107,8 +109,9 @@ fn last_level(alloc: Global, name: Token, behind: &[Token]) -> Result<(Stmt, u16
     match clause_on(Mode::Start, behind) {
         Some((_token, rest)) => Err(Stop::Deep(rest.len())),
         None => {
-            let list = stmt_nodes::only(alloc, nodes::leaf(name.at, ExprKind::Name(name)))?;
-            Ok((stmt_nodes::eval(name.at, list), 2, behind))
+            let e = nodes::leaf(alloc, name.at, ExprKind::Name(name))?;
+            let list = stmt_nodes::only(alloc, e)?;
+            Ok((stmt_nodes::eval(alloc, name.at, list)?, 2, behind))
         }
     }
 }
@@ -126,7 +129,7 @@ fn declared_too_deep(alloc: Global, name: Token, colon: Token, tokens: &[Token])
         return Stop::Deep(rest.len());
     }
     match ty(alloc, Use::Plain, tokens, 0) {
-        Ok((t, _height, _rest)) => nodes::discard_type(t, Stop::Memory),
+        Ok((t, _height, _rest)) => discard_type(t, Stop::Memory),
         Err(error) => error,
     }
 }
@@ -212,12 +215,16 @@ fn returns<'a>(
     }
     match exprs(alloc, Mode::Free, behind, depth - 1) {
         Ok((values, height, after)) => {
-            Ok((stmt_nodes::returns(token.at, values), height + 1, after))
+            Ok((
+                stmt_nodes::returns(alloc, token.at, values)?,
+                height + 1,
+                after,
+            ))
         }
         Err(error) => {
             if stands_at(error, behind.len()) {
                 let nothing = Vec::new(alloc);
-                Ok((stmt_nodes::returns(token.at, nothing), 1, behind))
+                Ok((stmt_nodes::returns(alloc, token.at, nothing)?, 1, behind))
             } else {
                 Err(error)
             }
@@ -226,7 +233,12 @@ fn returns<'a>(
 }
 
 /// `break`, with a label or without.
-fn breaks(token: Token, behind: &[Token], depth: u8) -> Result<(Stmt, u16, &[Token]), Stop>
+fn breaks(
+    alloc: Global,
+    token: Token,
+    behind: &[Token],
+    depth: u8,
+) -> Result<(Stmt, u16, &[Token]), Stop>
     ensures exact { statement_form token ≡ forms.Break → Exact (one g.statement) continues_statement depth (token ∷ behind.now) (seen stmt result) }
     ensures shorter { IfOk result (λ r. length r.2.now ≤ length behind.now) }
     ensures low { IfOk result (λ r. r.1 ≤ depth + 1) }
@@ -236,15 +248,24 @@ fn breaks(token: Token, behind: &[Token], depth: u8) -> Result<(Stmt, u16, &[Tok
     }
     match strip(behind, TokenKind::Name) {
         Some((name, rest)) => {
-            let s = stmt_nodes::leaf(token.at, StmtKind::Break(Some(name)));
+            let s = stmt_nodes::leaf(alloc, token.at, StmtKind::Break(Some(name)))?;
             Ok((s, 1, rest))
         }
-        None => Ok((stmt_nodes::leaf(token.at, StmtKind::Break(None)), 1, behind)),
+        None => Ok((
+            stmt_nodes::leaf(alloc, token.at, StmtKind::Break(None))?,
+            1,
+            behind,
+        )),
     }
 }
 
 /// `continue`, with a label or without.
-fn continues(token: Token, behind: &[Token], depth: u8) -> Result<(Stmt, u16, &[Token]), Stop>
+fn continues(
+    alloc: Global,
+    token: Token,
+    behind: &[Token],
+    depth: u8,
+) -> Result<(Stmt, u16, &[Token]), Stop>
     ensures exact { statement_form token ≡ forms.Continue → Exact (one g.statement) continues_statement depth (token ∷ behind.now) (seen stmt result) }
     ensures shorter { IfOk result (λ r. length r.2.now ≤ length behind.now) }
     ensures low { IfOk result (λ r. r.1 ≤ depth + 1) }
@@ -254,11 +275,11 @@ fn continues(token: Token, behind: &[Token], depth: u8) -> Result<(Stmt, u16, &[
     }
     match strip(behind, TokenKind::Name) {
         Some((name, rest)) => {
-            let s = stmt_nodes::leaf(token.at, StmtKind::Continue(Some(name)));
+            let s = stmt_nodes::leaf(alloc, token.at, StmtKind::Continue(Some(name)))?;
             Ok((s, 1, rest))
         }
         None => Ok((
-            stmt_nodes::leaf(token.at, StmtKind::Continue(None)),
+            stmt_nodes::leaf(alloc, token.at, StmtKind::Continue(None))?,
             1,
             behind,
         )),
@@ -266,7 +287,12 @@ fn continues(token: Token, behind: &[Token], depth: u8) -> Result<(Stmt, u16, &[
 }
 
 /// `fallthrough`
-fn fallthrough(token: Token, behind: &[Token], depth: u8) -> Result<(Stmt, u16, &[Token]), Stop>
+fn fallthrough(
+    alloc: Global,
+    token: Token,
+    behind: &[Token],
+    depth: u8,
+) -> Result<(Stmt, u16, &[Token]), Stop>
     ensures exact { statement_form token ≡ forms.Fallthrough → Exact (one g.statement) continues_statement depth (token ∷ behind.now) (seen stmt result) }
     ensures shorter { IfOk result (λ r. length r.2.now ≤ length behind.now) }
     ensures low { IfOk result (λ r. r.1 ≤ depth + 1) }
@@ -274,7 +300,11 @@ fn fallthrough(token: Token, behind: &[Token], depth: u8) -> Result<(Stmt, u16, 
     if depth == 0 {
         return Err(Stop::Deep(behind.len()));
     }
-    Ok((stmt_nodes::leaf(token.at, StmtKind::Fallthrough), 1, behind))
+    Ok((
+        stmt_nodes::leaf(alloc, token.at, StmtKind::Fallthrough)?,
+        1,
+        behind,
+    ))
 }
 
 /// A block, a loop or a switch, as a statement with this label, whose parts may have this depth.
@@ -294,7 +324,11 @@ fn labelled<'a>(
         return match braces(alloc, inner, depth) {
             Ok((body, height, rest)) => {
                 let Braced { stmts, close: _ } = body;
-                Ok((stmt_nodes::block(label, open.at, stmts), height, rest))
+                Ok((
+                    stmt_nodes::block(alloc, label, open.at, stmts)?,
+                    height,
+                    rest,
+                ))
             }
             Err(error) => Err(error),
         };

@@ -6,17 +6,15 @@ ghost use Rattle.odc_syntax.specs.declared.token.TokenKind.TheVariants as kind;
 ghost use Rattle.odc_syntax.specs.declared.token.Word.TheVariants as words;
 ghost use Rattle.odc_syntax.specs.Derives.{StartsWithout};
 ghost use Rattle.odc_syntax.specs.Tree as tree;
-ghost use Rattle.odc_syntax.specs.View.{expr, stmt};
-ghost use Rattle.odc_nodes.specs.StmtViews.{header_of};
-ghost use Rattle.odc_nodes.specs.SwitchViews.{cases as case_tree};
-ghost use Rattle.odc_parse_base.specs.Exact.{Exact, one};
-ghost use Rattle.odc_parse_base.specs.Headers.{Listed, HeadExpression, ClosedFrom, ConditionFrom};
-ghost use Rattle.odc_parse_base.specs.Read.{seen, refused};
-ghost use Rattle.odc_parse_base.specs.Statements.{LabelledRead, labelled_part, labelled_node};
-ghost use Rattle.odc_parse_base.specs.StatementSets.{continues_statement, continues_head};
+ghost use Rattle.odc_syntax.specs.View.{expr, stmt, header_of, cases as case_tree};
+ghost use Rattle.odc_lookahead.specs.Exact.{Exact, one};
+ghost use Rattle.odc_lookahead.specs.Headers.{Listed, HeadExpression, ClosedFrom, ConditionFrom};
+ghost use Rattle.odc_lookahead.specs.Read.{seen, refused};
+ghost use Rattle.odc_lookahead.specs.Statements.{LabelledRead, labelled_part, labelled_node};
+ghost use Rattle.odc_lookahead.specs.StatementSets.{continues_statement, continues_head};
 ghost use Rattle.odc_parse_expr.specs.SwitchForms.{head_of};
-ghost use Rattle.odc_parse_base.specs.SwitchParts.{by_value, switch_head, switched, NotTyped, NotPartial, WordRead};
-ghost use Rattle.odc_parse_base.specs.SwitchSets.{before_cases, EndsHead};
+ghost use Rattle.odc_lookahead.specs.SwitchParts.{by_value, switch_head, switched, NotTyped, NotPartial, WordRead};
+ghost use Rattle.odc_lookahead.specs.SwitchSets.{before_cases, EndsHead};
 
 use crate::binary::level;
 use crate::block::stands_at;
@@ -27,13 +25,14 @@ use crate::run_bounds::run_over;
 use crate::runs::{NamesEnd, names_in};
 use crate::simple::{nothing_fits, simple, simple_from};
 use crate::statement::goes_on_simple;
+use odc_lookahead::stop::Stop;
+use odc_lookahead::tokens::{expect, first, same_kind, strip, within};
 use odc_nodes::{nodes, stmt_nodes, switch_nodes};
-use odc_parse_base::stop::Stop;
-use odc_parse_base::tokens::{expect, first, same_kind, strip, within};
 use odc_syntax::grammar::{Level, Mode};
 use odc_syntax::token::{Token, TokenKind, Word};
 use odc_syntax::tree::{Case, Expr, ExprKind, Header, Stmt, SwitchWord};
 use odc_text::place::Place;
+use odc_tree::discard::{discard_cases, discard_expr, discard_header, discard_optional_expr};
 use std::alloc::{AllocError, Global};
 
 /// What stands between `switch` and its cases.
@@ -76,7 +75,7 @@ pub fn switch_statement<'a>(
     let height = n.max(m);
     match expect(after, TokenKind::CloseBrace, within(height, depth)) {
         Ok((_close, end)) => Ok((switched(alloc, label, at, word, head, list)?, height, end)),
-        Err(error) => Err(discard_head(head, switch_nodes::discard_cases(list, error))),
+        Err(error) => Err(discard_head(head, discard_cases(list, error))),
     }
 }
 
@@ -157,7 +156,7 @@ fn before_cases<'a>(
     }
     match names_in(tokens) {
         NamesEnd::Declared => match declaration(alloc, Mode::Header, tokens, depth) {
-            Ok((d, n, rest)) => closed(alloc, stmt_nodes::declared(alloc, d)?, n, rest, depth),
+            Ok((d, n, rest)) => closed(alloc, Header::Decl(d), n, rest, depth),
             Err(error) => Err(error),
         },
         NamesEnd::Listed => listed(alloc, tokens, depth),
@@ -208,7 +207,7 @@ fn no_level<'a>(alloc: Global, tokens: &'a [Token]) -> Result<(SwitchHead, u16, 
     match head_on(behind) {
         Some((_token, rest)) => Err(Stop::Deep(rest.len())),
         None => {
-            let e = nodes::leaf(name.at, ExprKind::Name(name));
+            let e = nodes::leaf(alloc, name.at, ExprKind::Name(name))?;
             Ok((value_alone(e), 1, behind))
         }
     }
@@ -253,7 +252,7 @@ fn listed<'a>(
         return Err(run_over(alloc, tokens));
     }
     match simple(alloc, Mode::Header, tokens, depth) {
-        Ok((s, n, rest)) => closed(alloc, stmt_nodes::assigned(alloc, s)?, n, rest, depth),
+        Ok((s, n, rest)) => closed(alloc, Header::Simple(s), n, rest, depth),
         Err(error) => Err(error),
     }
 }
@@ -277,14 +276,14 @@ fn behind_value<'a>(
         None => return Ok((value_alone(e), height, tokens)),
     };
     if height >= u16::from(depth) {
-        return Err(nodes::discard(e, Stop::Deep(behind.len())));
+        return Err(discard_expr(e, Stop::Deep(behind.len())));
     }
     if same_kind(token.kind, TokenKind::Semicolon) {
         let header = stmt_nodes::evaluated(alloc, e)?;
         return value(alloc, header, height + 1, behind, depth);
     }
     match simple_from(alloc, Mode::Header, e, height, tokens, depth - 1) {
-        Ok((s, n, rest)) => closed(alloc, stmt_nodes::assigned(alloc, s)?, n, rest, depth),
+        Ok((s, n, rest)) => closed(alloc, Header::Simple(s), n, rest, depth),
         Err(error) => Err(error),
     }
 }
@@ -304,7 +303,7 @@ fn closed<'a>(
 {
     match expect(tokens, TokenKind::Semicolon, within(height, depth)) {
         Ok((_semicolon, rest)) => value(alloc, header, height, rest, depth),
-        Err(error) => Err(stmt_nodes::discard_header(header, error)),
+        Err(error) => Err(discard_header(header, error)),
     }
 }
 
@@ -327,7 +326,7 @@ fn value<'a>(
             if stands_at(error, tokens.len()) {
                 Ok((SwitchHead::Value(header, None), height, tokens))
             } else {
-                Err(stmt_nodes::discard_header(header, error))
+                Err(discard_header(header, error))
             }
         }
     }
@@ -360,8 +359,8 @@ fn discard_head(head: SwitchHead, why: Stop) -> Stop
 {
     match head {
         SwitchHead::Value(header, value) => {
-            stmt_nodes::discard_header(header, switch_nodes::discard_value(value, why))
+            discard_header(header, discard_optional_expr(value, why))
         }
-        SwitchHead::Type(_name, _mark, value) => nodes::discard(value, why),
+        SwitchHead::Type(_name, _mark, value) => discard_expr(value, why),
     }
 }

@@ -4,25 +4,26 @@ ghost use Rattle.std.specs.Prelude.{◌≡◌, ◌∷◌, ◌<◌, ◌≤◌, �
 ghost use Rattle.odc_syntax.specs.Grammar as g;
 ghost use Rattle.odc_syntax.specs.View.{type};
 ghost use Rattle.odc_syntax.specs.declared.token.TokenKind.TheVariants as kind;
-ghost use Rattle.odc_parse_base.specs.Ends.{ExactAs, seen_to};
-ghost use Rattle.odc_parse_base.specs.Exact.{Exact, one};
-ghost use Rattle.odc_parse_base.specs.Read.{seen};
-ghost use Rattle.odc_parse_base.specs.Sets.{nothing_continues};
-ghost use Rattle.odc_parse_base.specs.TypeForms.{own_form, built_form};
-ghost use Rattle.odc_parse_base.specs.declared.type_form.BuiltForm.TheVariants as built;
+ghost use Rattle.odc_lookahead.specs.Ends.{ExactAs, seen_to};
+ghost use Rattle.odc_lookahead.specs.Exact.{Exact, one};
+ghost use Rattle.odc_lookahead.specs.Read.{seen};
+ghost use Rattle.odc_lookahead.specs.Sets.{nothing_continues};
+ghost use Rattle.odc_lookahead.specs.TypeForms.{own_form, built_form};
+ghost use Rattle.odc_lookahead.specs.declared.type_form.BuiltForm.TheVariants as built;
 
 use crate::arrays::array;
 use crate::fields::{enum_type, struct_type, union_type};
 use crate::signatures::signature;
+use odc_lookahead::end::{End, at_end, ends_operand, inside};
+use odc_lookahead::shape::Shape;
+use odc_lookahead::stop::Stop;
+use odc_lookahead::tokens::{expect, first, strip, within};
+use odc_lookahead::type_form::{BuiltForm, OwnForm, built_form, own_form};
 use odc_nodes::type_nodes;
-use odc_parse_base::end::{End, at_end, ends_operand, inside};
-use odc_parse_base::shape::Shape;
-use odc_parse_base::stop::Stop;
-use odc_parse_base::tokens::{expect, first, strip, within};
-use odc_parse_base::type_form::{BuiltForm, OwnForm, built_form, own_form};
 use odc_syntax::grammar::Use;
 use odc_syntax::token::{Token, TokenKind};
 use odc_syntax::tree::Type;
+use odc_tree::discard::discard_type;
 use std::alloc::Global;
 
 /// A type that stands in brackets of one that stands so, or where no expression may stand.
@@ -85,7 +86,7 @@ fn own<'a>(
     ensures low { IfOk result (λ r. r.1 ≤ depth + 1) }
 {
     match form {
-        OwnForm::Name => name(used, token, behind),
+        OwnForm::Name => name(alloc, used, token, behind),
         OwnForm::Group => group(alloc, used, token, behind, depth),
         OwnForm::Proc => match signature(alloc, used, token, behind, depth) {
             Ok((s, height, rest, end)) => Ok((
@@ -100,18 +101,28 @@ fn own<'a>(
 }
 
 /// A name, or one of another package.
-fn name(used: Use, token: Token, behind: &[Token]) -> Result<(Type, u16, &[Token], End), Stop>
+fn name(
+    alloc: Global,
+    used: Use,
+    token: Token,
+    behind: &[Token],
+) -> Result<(Type, u16, &[Token], End), Stop>
     ensures exact { token.kind ≡ kind.Name → (b : ℕ) → ExactAs used (one (g.type_ used)) nothing_continues (suc b) (token ∷ behind.now) (seen_to type result) }
     ensures shorter { IfOk result (λ r. length r.2.now ≤ length behind.now) }
     ensures low { IfOk result (λ r. r.1 ≤ 1) }
 {
     match strip(behind, TokenKind::Dot) {
-        None => Ok((type_nodes::named(token), 1, behind, End::Sure)),
+        None => Ok((type_nodes::named(alloc, token)?, 1, behind, End::Sure)),
         Some((_dot, rest)) => match strip(rest, TokenKind::Name) {
-            Some((second, after)) => Ok((type_nodes::member(token, second), 1, after, End::Sure)),
+            Some((second, after)) => Ok((
+                type_nodes::member(alloc, token, second)?,
+                1,
+                after,
+                End::Sure,
+            )),
             None => {
                 if ends_operand(used) {
-                    Ok((type_nodes::named(token), 1, behind, End::BeforeDot))
+                    Ok((type_nodes::named(alloc, token)?, 1, behind, End::BeforeDot))
                 } else {
                     Err(Stop::Syntax(rest.len()))
                 }
@@ -139,7 +150,7 @@ fn group<'a>(
     };
     match expect(after, TokenKind::CloseParen, within(height, depth)) {
         Ok((_close, rest)) => Ok((t, height + 1, rest, End::Sure)),
-        Err(error) => Err(type_nodes::discard_type(t, error)),
+        Err(error) => Err(discard_type(t, error)),
     }
 }
 
@@ -186,7 +197,7 @@ fn build<'a>(
     match form {
         BuiltForm::Pointer => pointer(alloc, used, token, behind, depth),
         BuiltForm::Distinct => distinct(alloc, used, token, behind, depth),
-        BuiltForm::Dollar => dollar(used, token, behind),
+        BuiltForm::Dollar => dollar(alloc, used, token, behind),
         BuiltForm::WordProc => word_proc(alloc, used, token, behind, depth),
         BuiltForm::Array => array(alloc, used, Shape::Array, token.at, behind, depth),
         BuiltForm::Soa => soa(alloc, used, token, behind, depth),
@@ -245,13 +256,23 @@ fn distinct<'a>(
 }
 
 /// `$T`
-fn dollar(used: Use, token: Token, behind: &[Token]) -> Result<(Type, u16, &[Token], End), Stop>
+fn dollar(
+    alloc: Global,
+    used: Use,
+    token: Token,
+    behind: &[Token],
+) -> Result<(Type, u16, &[Token], End), Stop>
     ensures exact { built_form used token ≡ Some built.Dollar → (b : ℕ) → ExactAs used (one (g.constructed used)) nothing_continues (suc b) (token ∷ behind.now) (seen_to type result) }
     ensures shorter { IfOk result (λ r. length r.2.now ≤ length behind.now) }
     ensures low { IfOk result (λ r. r.1 ≤ 1) }
 {
     match expect(behind, TokenKind::Name, true) {
-        Ok((name, rest)) => Ok((type_nodes::dollar(token.at, name), 1, rest, End::Sure)),
+        Ok((name, rest)) => Ok((
+            type_nodes::dollar(alloc, token.at, name)?,
+            1,
+            rest,
+            End::Sure,
+        )),
         Err(error) => Err(error),
     }
 }

@@ -4,21 +4,22 @@ ghost use Rattle.std.specs.Prelude.{◌≡◌, ◌∷◌, ◌<◌, ◌≤◌, �
 ghost use Rattle.odc_syntax.specs.Grammar as g;
 ghost use Rattle.odc_syntax.specs.View.{expr};
 ghost use Rattle.odc_syntax.specs.declared.token.TokenKind.TheVariants as kind;
-ghost use Rattle.odc_parse_base.specs.Exact.{Exact, one};
-ghost use Rattle.odc_parse_base.specs.Read.{seen};
-ghost use Rattle.odc_parse_base.specs.Sets.{starts_suffix};
+ghost use Rattle.odc_lookahead.specs.Exact.{Exact, one};
+ghost use Rattle.odc_lookahead.specs.Read.{seen};
+ghost use Rattle.odc_lookahead.specs.Sets.{starts_suffix};
 
 use crate::postfix::postfix;
 use crate::types::ty;
+use odc_lookahead::operators::later;
+use odc_lookahead::stop::Stop;
+use odc_lookahead::tokens::{expect, first, within};
+use odc_lookahead::unary::{UnaryForm, unary_form};
 use odc_nodes::nodes;
-use odc_parse_base::operators::later;
-use odc_parse_base::stop::Stop;
-use odc_parse_base::tokens::{expect, first, within};
-use odc_parse_base::unary::{UnaryForm, unary_form};
 use odc_syntax::grammar::{Mode, Use};
 use odc_syntax::token::{Token, TokenKind};
 use odc_syntax::tree::Expr;
 use odc_text::place::Place;
+use odc_tree::discard::discard_type;
 use std::alloc::Global;
 
 /// An operand with operators before it and suffixes behind it.
@@ -82,10 +83,10 @@ fn cast<'a>(
     };
     let (_close, last) = match expect(after, TokenKind::CloseParen, within(height, depth)) {
         Ok(found) => found,
-        Err(error) => return Err(nodes::discard_type(t, error)),
+        Err(error) => return Err(discard_type(t, error)),
     };
     match unary(alloc, later(mode), last, depth) {
         Ok((e, n, rest)) => Ok((nodes::cast(alloc, token.at, t, e)?, height.max(n) + 1, rest)),
-        Err(error) => Err(nodes::discard_type(t, error)),
+        Err(error) => Err(discard_type(t, error)),
     }
 }

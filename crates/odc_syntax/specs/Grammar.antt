@@ -102,6 +102,30 @@ labelled l (range names over body) = tree.range l names over body
 labelled l (switch w header value cases) = tree.switch l w header value cases
 labelled l (type_switch w name value cases) = tree.type_switch l w name value cases
 
+-- a statement with a label stands at it
+abbrev pub placed : Option Token → Place → Place
+placed None at = at
+placed (Some t) at = t.at
+
+-- a declaration as a statement
+abbrev pub declared_stmt : tree.Decl → tree.Stmt
+declared_stmt (tree.decl at k) = tree.stmt at (tree.declare (tree.decl at k))
+
+-- an expression alone as a header
+abbrev pub evaluated_header : Expr → HeaderTree
+evaluated_header e = tree.simple_header (tree.stmt (first_of e) (tree.eval (tree.more_exprs e tree.no_exprs)))
+
+-- a type as an operand
+abbrev pub type_operand : tree.Type_ → Expr
+type_operand (tree.type at k) = expr at at (tree.type_tree (tree.type at k))
+
+-- a procedure's type as an operand, and a procedure with its body
+abbrev pub proc_type : tree.Signature → Expr
+proc_type (tree.signature at n ps r) = expr at at (tree.type_tree (tree.type at (tree.proc (tree.signature at n ps r))))
+
+abbrev pub proc_literal : tree.Signature → Stmts → Expr
+proc_literal (tree.signature at n ps r) ss = expr at at (tree.proc_lit (tree.signature at n ps r) ss)
+
 pub data Sym : Type 0 where
   -- a token of this kind; a token of this kind that says this
   tok : (k : TokenKind) (t : Token) → Sym

@@ -1,215 +1,200 @@
--- The clean tree of a tree.
-use Rattle.std.specs.Prelude.{List, [], ◌∷◌}
-use Rattle.odc_syntax.specs.declared.tree.Expr.{Expr}
-use Rattle.odc_syntax.specs.declared.tree.«Type».{«Type»}
+-- The clean form of each node, one level deep: children with a model are clean trees already.
+-- Written by tools/trees.
+use Rattle.std.specs.Prelude.{List, [], ◌∷◌, Option, Some, None}
 use Rattle.odc_syntax.specs.declared.tree.Arg.{Arg}
 use Rattle.odc_syntax.specs.declared.tree.Field.{Field}
+use Rattle.odc_syntax.specs.declared.tree.Enumerator.{Enumerator}
 use Rattle.odc_syntax.specs.declared.tree.Signature.{Signature}
-use Rattle.odc_syntax.specs.declared.tree.Stmt.{Stmt}
-use Rattle.odc_syntax.specs.declared.tree.Decl.{Decl}
+use Rattle.odc_syntax.specs.declared.tree.Param.{Param}
+use Rattle.odc_syntax.specs.declared.tree.Span.{Span}
+use Rattle.odc_syntax.specs.declared.tree.Case.{Case}
 use Rattle.odc_syntax.specs.declared.tree.ExprKind.{ExprKind}
+use Rattle.odc_syntax.specs.declared.tree.ExprKind.TheVariants as expr_kinds
 use Rattle.odc_syntax.specs.declared.tree.TypeKind.{TypeKind}
-use Rattle.odc_syntax.specs.declared.tree.StmtKind.{StmtKind}
+use Rattle.odc_syntax.specs.declared.tree.TypeKind.TheVariants as type_kinds
 use Rattle.odc_syntax.specs.declared.tree.Length.{Length}
+use Rattle.odc_syntax.specs.declared.tree.Length.TheVariants as lengths
 use Rattle.odc_syntax.specs.declared.tree.Results.{Results}
+use Rattle.odc_syntax.specs.declared.tree.Results.TheVariants as resultss
 use Rattle.odc_syntax.specs.declared.tree.ParamType.{ParamType}
+use Rattle.odc_syntax.specs.declared.tree.ParamType.TheVariants as param_types
+use Rattle.odc_syntax.specs.declared.tree.StmtKind.{StmtKind}
+use Rattle.odc_syntax.specs.declared.tree.StmtKind.TheVariants as stmt_kinds
 use Rattle.odc_syntax.specs.declared.tree.Header.{Header}
+use Rattle.odc_syntax.specs.declared.tree.Header.TheVariants as headers
 use Rattle.odc_syntax.specs.declared.tree.Else.{Else}
+use Rattle.odc_syntax.specs.declared.tree.Else.TheVariants as elses
 use Rattle.odc_syntax.specs.declared.tree.SpanEnd.{SpanEnd}
+use Rattle.odc_syntax.specs.declared.tree.SpanEnd.TheVariants as span_ends
 use Rattle.odc_syntax.specs.declared.tree.DeclKind.{DeclKind}
+use Rattle.odc_syntax.specs.declared.tree.DeclKind.TheVariants as decl_kinds
 use Rattle.odc_syntax.specs.declared.tree.Initial.{Initial}
-use Rattle.odc_syntax.specs.declared.tree.ExprKind.TheVariants as e
-use Rattle.odc_syntax.specs.declared.tree.TypeKind.TheVariants as t
-use Rattle.odc_syntax.specs.declared.tree.StmtKind.TheVariants as s
-use Rattle.odc_syntax.specs.declared.tree.Length.TheVariants as l
-use Rattle.odc_syntax.specs.declared.tree.Results.TheVariants as r
-use Rattle.odc_syntax.specs.declared.tree.ParamType.TheVariants as p
-use Rattle.odc_syntax.specs.declared.tree.Header.TheVariants as h
-use Rattle.odc_syntax.specs.declared.tree.Else.TheVariants as o
-use Rattle.odc_syntax.specs.declared.tree.SpanEnd.TheVariants as q
-use Rattle.odc_syntax.specs.declared.tree.DeclKind.TheVariants as d
-use Rattle.odc_syntax.specs.declared.tree.Initial.TheVariants as i
+use Rattle.odc_syntax.specs.declared.tree.Initial.TheVariants as initials
 use Rattle.odc_syntax.specs.Tree as tree
-use Rattle.odc_syntax.specs.declared.tree.DeclKind.TheBlock as b
 
-abbrev mutual
-  pub kind : ExprKind → tree.ExprKind
-  kind (e.Name t) = tree.name t
-  kind (e.Int t) = tree.int t
-  kind (e.Rune t) = tree.rune t
-  kind (e.Text t) = tree.text t
-  kind e.Context = tree.context
-  kind (e.Dot t) = tree.dot t
-  kind (e.Select' p f a k t) = tree.select (tree.expr f a (kind k)) t
-  kind (e.Assert' p f a k q ta tk) = tree.assert (tree.expr f a (kind k)) (tree.type ta (type_kind tk))
-  kind (e.Deref' p f a k) = tree.deref (tree.expr f a (kind k))
-  kind (e.Index' p f a k q g c l) = tree.index (tree.expr f a (kind k)) (tree.expr g c (kind l))
-  kind (e.Cut' p f a k low high) = tree.cut (tree.expr f a (kind k)) (held_expr low) (held_expr high)
-  kind (e.Call' p f a k s r) = tree.call (tree.expr f a (kind k)) (arg_row r)
-  kind (e.OrReturn' p f a k) = tree.or_return (tree.expr f a (kind k))
-  kind (e.Literal' t s r) = tree.literal (held_expr t) (arg_row r)
-  kind (e.Unary' op p f a k) = tree.unary op (tree.expr f a (kind k))
-  kind (e.Binary' op p f a k q g c l) = tree.binary op (tree.expr f a (kind k)) (tree.expr g c (kind l))
-  kind (e.Cast' p ta tk q f a k) = tree.cast (tree.type ta (type_kind tk)) (tree.expr f a (kind k))
-  kind e.Location = tree.location
-  kind (e.TypeTree' p ta tk) = tree.type_tree (tree.type ta (type_kind tk))
-  kind (e.ProcLit' p s q r) = tree.proc_lit (held_signature s) (stmt_row r)
+-- a node with a model is its own clean form
+abbrev pub expr : tree.Expr → tree.Expr
+expr x = x
 
-  pub held_expr : b.Held-ExprKind-Cut-1 → tree.MaybeExpr
-  held_expr b.ExprKind-Cut-1-None' = tree.no_expr
-  held_expr (b.ExprKind-Cut-1-Some' p f a k) = tree.some_expr (tree.expr f a (kind k))
+abbrev pub type : tree.Type_ → tree.Type_
+type x = x
 
-  pub held_type : b.Held-DeclKind-Constant-1 → tree.MaybeType
-  held_type b.DeclKind-Constant-1-None' = tree.no_type
-  held_type (b.DeclKind-Constant-1-Some' p a k) = tree.some_type (tree.type a (type_kind k))
+abbrev pub stmt : tree.Stmt → tree.Stmt
+stmt x = x
 
-  pub held_stmt : b.Held-StmtKind-Loop-3 → tree.MaybeStmt
-  held_stmt b.StmtKind-Loop-3-None' = tree.no_stmt
-  held_stmt (b.StmtKind-Loop-3-Some' p a k) = tree.some_stmt (tree.stmt a (stmt_kind k))
+abbrev pub decl : tree.Decl → tree.Decl
+decl x = x
 
-  pub arg_row : {m : _} → b.Row_of-Arg m → tree.Args
-  arg_row b.end_of-Arg = tree.no_args
-  arg_row (b.more_of-Arg n f a k r) = tree.more_args n (tree.expr f a (kind k)) (arg_row r)
+abbrev pub maybe_expr : Option tree.Expr → tree.MaybeExpr
+maybe_expr None = tree.no_expr
+maybe_expr (Some x) = tree.some_expr x
 
-  pub expr_row : {m : _} → b.Row_of-Expr m → tree.Exprs
-  expr_row b.end_of-Expr = tree.no_exprs
-  expr_row (b.more_of-Expr f a k r) = tree.more_exprs (tree.expr f a (kind k)) (expr_row r)
+abbrev pub maybe_type : Option tree.Type_ → tree.MaybeType
+maybe_type None = tree.no_type
+maybe_type (Some x) = tree.some_type x
 
-  pub type_kind : TypeKind → tree.TypeKind
-  type_kind (t.Named n) = tree.named n
-  type_kind (t.Member n m) = tree.member n m
-  type_kind (t.Dollar n) = tree.dollar n
-  type_kind (t.Pointer' p a k) = tree.pointer (tree.type a (type_kind k))
-  type_kind (t.Distinct' p a k) = tree.distinct (tree.type a (type_kind k))
-  type_kind (t.Proc' p s) = tree.proc (held_signature s)
-  type_kind (t.Array' n p a k) = tree.array (length n) (tree.type a (type_kind k))
-  type_kind (t.Soa' n p a k) = tree.soa (length n) (tree.type a (type_kind k))
-  type_kind (t.Struct' s r) = tree.struct (field_row r)
-  type_kind (t.Union' s r) = tree.union (type_row r)
-  type_kind (t.Enum' ty s r) = tree.enum (held_type ty) (enumerator_row r)
+abbrev pub maybe_stmt : Option tree.Stmt → tree.MaybeStmt
+maybe_stmt None = tree.no_stmt
+maybe_stmt (Some x) = tree.some_stmt x
 
-  pub length : Length → tree.Length
-  length l.Slice = tree.slice
-  length l.Dynamic = tree.dynamic
-  length l.Counted = tree.counted
-  length (l.Dollar n) = tree.parametric n
-  length (l.Fixed' p f a k) = tree.fixed (tree.expr f a (kind k))
-
-  pub type_row : {m : _} → b.Row_of-Type m → tree.Types
-  type_row b.end_of-Type = tree.no_types
-  type_row (b.more_of-Type a k r) = tree.more_types (tree.type a (type_kind k)) (type_row r)
-
-  pub field_row : {m : _} → b.Row_of-Field m → tree.Fields
-  field_row b.end_of-Field = tree.no_fields
-  field_row (b.more_of-Field ns a k r) = tree.more_fields ns.items (tree.type a (type_kind k)) (field_row r)
-
-  pub enumerator_row : {m : _} → b.Row_of-Enumerator m → tree.Enumerators
-  enumerator_row b.end_of-Enumerator = tree.no_enumerators
-  enumerator_row (b.more_of-Enumerator (b.struct-Enumerator n v) r) = tree.more_enumerators n (held_expr v) (enumerator_row r)
-
-  pub held_signature : b.the_data-18 → tree.Signature
-  held_signature (b.struct-Signature at n s r results) = tree.signature at n (param_row r) (result_kind results)
-
-  pub result_kind : Results → tree.Results
-  result_kind r.None = tree.no_results
-  result_kind (r.One' p a k) = tree.one_result (tree.type a (type_kind k))
-  result_kind (r.List' s r) = tree.list_results (param_row r)
-
-  pub param_row : {m : _} → b.Row_of-Param m → tree.Params
-  param_row b.end_of-Param = tree.no_params
-  param_row (b.more_of-Param (b.struct-Param dollar ns ty d) r) = tree.more_params (tree.param dollar ns.items (param_kind ty) (held_expr d)) (param_row r)
-
-  pub param_kind : ParamType → tree.ParamType
-  param_kind (p.Type' q a k) = tree.of_type (tree.type a (type_kind k))
-  param_kind p.Typeid = tree.typeid
-  param_kind p.Inferred = tree.inferred
-
-  pub stmt_kind : StmtKind → tree.StmtKind
-  stmt_kind (s.Declare' p a k) = tree.declare (tree.decl a (decl_kind k))
-  stmt_kind (s.Assign' s r op s' r') = tree.assign (expr_row r) op (expr_row r')
-  stmt_kind (s.Eval' s r) = tree.eval (expr_row r)
-  stmt_kind (s.Block' l s r) = tree.block l (stmt_row r)
-  stmt_kind (s.If' h p f a k s r e) = tree.if_ (header_kind h) (tree.expr f a (kind k)) (stmt_row r) (else_kind e)
-  stmt_kind (s.Loop' l h e p s r) = tree.loop l (header_kind h) (held_expr e) (held_stmt p) (stmt_row r)
-  stmt_kind (s.Range' l vs f a k q s r) = tree.range l vs (tree.span (tree.expr f a (kind k)) (end_kind q)) (stmt_row r)
-  stmt_kind (s.Switch' l w h e s r) = tree.switch l w (header_kind h) (held_expr e) (case_row r)
-  stmt_kind (s.TypeSwitch' l w n p f a k s r) = tree.type_switch l w n (tree.expr f a (kind k)) (case_row r)
-  stmt_kind (s.Defer' p a k) = tree.defer (tree.stmt a (stmt_kind k))
-  stmt_kind (s.Return' s r) = tree.return (expr_row r)
-  stmt_kind (s.Break l) = tree.break l
-  stmt_kind (s.Continue l) = tree.continue l
-  stmt_kind s.Fallthrough = tree.fallthrough
-
-  pub stmt_row : {m : _} → b.Row_of-Stmt m → tree.Stmts
-  stmt_row b.end_of-Stmt = tree.no_stmts
-  stmt_row (b.more_of-Stmt a k r) = tree.more_stmts (tree.stmt a (stmt_kind k)) (stmt_row r)
-
-  pub header_kind : Header → tree.Header
-  header_kind h.None = tree.no_header
-  header_kind (h.Decl' p a k) = tree.decl_header (tree.decl a (decl_kind k))
-  header_kind (h.Simple' p a k) = tree.simple_header (tree.stmt a (stmt_kind k))
-
-  pub else_kind : Else → tree.Else
-  else_kind o.None = tree.no_else
-  else_kind (o.If' p a k) = tree.else_if (tree.stmt a (stmt_kind k))
-  else_kind (o.Body' s r) = tree.else_body (stmt_row r)
-
-  pub end_kind : SpanEnd → tree.SpanEnd
-  end_kind q.Alone = tree.alone
-  end_kind (q.Through' p f a k) = tree.through (tree.expr f a (kind k))
-  end_kind (q.Below' p f a k) = tree.below (tree.expr f a (kind k))
-
-  pub span_row : {m : _} → b.Row_of-Span m → tree.Spans
-  span_row b.end_of-Span = tree.no_spans
-  span_row (b.more_of-Span f a k q r) = tree.more_spans (tree.span (tree.expr f a (kind k)) (end_kind q)) (span_row r)
-
-  pub case_row : {m : _} → b.Row_of-Case m → tree.Cases
-  case_row b.end_of-Case = tree.no_cases
-  case_row (b.more_of-Case (b.struct-Case at s r s' r') rest) = tree.more_cases at (span_row r) (stmt_row r') (case_row rest)
-
-  pub decl_kind : DeclKind → tree.DeclKind
-  decl_kind (d.Import n path) = tree.import n path
-  decl_kind (d.Constant' ns ty s r) = tree.constant ns.items (held_type ty) (expr_row r)
-  decl_kind (d.Variable' ns ty i) = tree.variable ns.items (held_type ty) (initial_kind i)
-
-  pub initial_kind : Initial → tree.Initial
-  initial_kind i.Zero = tree.zeros
-  initial_kind i.Dashes = tree.dashes
-  initial_kind (i.Values' s r) = tree.values (expr_row r)
-
-abbrev pub expr : Expr → tree.Expr
-expr e = tree.expr e.first e.at (kind e.kind)
-
-abbrev pub type : «Type» → tree.Type_
-type t = tree.type t.at (type_kind t.kind)
-
-abbrev pub stmt : Stmt → tree.Stmt
-stmt s = tree.stmt s.at (stmt_kind s.kind)
-
-abbrev pub decl : Decl → tree.Decl
-decl d = tree.decl d.at (decl_kind d.kind)
-
--- lists of nodes
-abbrev pub exprs : List Expr → tree.Exprs
+abbrev pub exprs : List tree.Expr → tree.Exprs
 exprs [] = tree.no_exprs
-exprs (e ∷ es) = tree.more_exprs (expr e) (exprs es)
+exprs (x ∷ xs) = tree.more_exprs x (exprs xs)
+
+abbrev pub types : List tree.Type_ → tree.Types
+types [] = tree.no_types
+types (x ∷ xs) = tree.more_types x (types xs)
+
+abbrev pub stmts : List tree.Stmt → tree.Stmts
+stmts [] = tree.no_stmts
+stmts (x ∷ xs) = tree.more_stmts x (stmts xs)
+
+abbrev pub decls : List tree.Decl → tree.Decls
+decls [] = tree.no_decls
+decls (x ∷ xs) = tree.more_decls x (decls xs)
+
+abbrev pub length : Length → tree.Length
+length lengths.Slice = tree.slice
+length lengths.Dynamic = tree.dynamic
+length lengths.Counted = tree.counted
+length (lengths.Dollar a0) = tree.parametric a0
+length (lengths.Fixed a0) = tree.fixed a0
 
 abbrev pub args : List Arg → tree.Args
 args [] = tree.no_args
-args (x ∷ xs) = tree.more_args x.name (expr x.value) (args xs)
-
-abbrev pub types : List «Type» → tree.Types
-types [] = tree.no_types
-types (t ∷ ts) = tree.more_types (type t) (types ts)
+args (x ∷ xs) = tree.more_args x.name x.value (args xs)
 
 abbrev pub fields : List Field → tree.Fields
 fields [] = tree.no_fields
-fields (f ∷ fs) = tree.more_fields f.names.items (type f.ty) (fields fs)
+fields (x ∷ xs) = tree.more_fields x.names.items x.ty (fields xs)
 
-abbrev pub stmts : List Stmt → tree.Stmts
-stmts [] = tree.no_stmts
-stmts (s ∷ ss) = tree.more_stmts (stmt s) (stmts ss)
+abbrev pub enumerators : List Enumerator → tree.Enumerators
+enumerators [] = tree.no_enumerators
+enumerators (x ∷ xs) = tree.more_enumerators x.name (maybe_expr x.value) (enumerators xs)
 
-abbrev pub decls : List Decl → tree.Decls
-decls [] = tree.no_decls
-decls (d ∷ ds) = tree.more_decls (decl d) (decls ds)
+abbrev pub param_kind : ParamType → tree.ParamType
+param_kind (param_types.Type a0) = tree.of_type a0
+param_kind param_types.Typeid = tree.typeid
+param_kind param_types.Inferred = tree.inferred
+
+abbrev pub param : Param → tree.Param
+param x = tree.param x.dollar x.names.items (param_kind x.ty) (maybe_expr x.default)
+
+abbrev pub params : List Param → tree.Params
+params [] = tree.no_params
+params (x ∷ xs) = tree.more_params (param x) (params xs)
+
+abbrev pub result_kind : Results → tree.Results
+result_kind resultss.None = tree.no_results
+result_kind (resultss.One a0) = tree.one_result a0
+result_kind (resultss.List a0) = tree.list_results (params a0.items)
+
+abbrev pub signature : Signature → tree.Signature
+signature x = tree.signature x.at x.convention (params x.params.items) (result_kind x.results)
+
+abbrev pub expr_kind : ExprKind → tree.ExprKind
+expr_kind (expr_kinds.Name a0) = tree.name a0
+expr_kind (expr_kinds.Int a0) = tree.int a0
+expr_kind (expr_kinds.Rune a0) = tree.rune a0
+expr_kind (expr_kinds.Text a0) = tree.text a0
+expr_kind expr_kinds.Context = tree.context
+expr_kind (expr_kinds.Dot a0) = tree.dot a0
+expr_kind (expr_kinds.Select a0 a1) = tree.select a0 a1
+expr_kind (expr_kinds.Assert a0 a1) = tree.assert a0 a1
+expr_kind (expr_kinds.Deref a0) = tree.deref a0
+expr_kind (expr_kinds.Index a0 a1) = tree.index a0 a1
+expr_kind (expr_kinds.Cut a0 a1 a2) = tree.cut a0 (maybe_expr a1) (maybe_expr a2)
+expr_kind (expr_kinds.Call a0 a1) = tree.call a0 (args a1.items)
+expr_kind (expr_kinds.OrReturn a0) = tree.or_return a0
+expr_kind (expr_kinds.Literal a0 a1) = tree.literal (maybe_expr a0) (args a1.items)
+expr_kind (expr_kinds.Unary a0 a1) = tree.unary a0 a1
+expr_kind (expr_kinds.Binary a0 a1 a2) = tree.binary a0 a1 a2
+expr_kind (expr_kinds.Cast a0 a1) = tree.cast a0 a1
+expr_kind expr_kinds.Location = tree.location
+expr_kind (expr_kinds.TypeTree a0) = tree.type_tree a0
+expr_kind (expr_kinds.ProcLit a0 a1) = tree.proc_lit (signature a0.value) (stmts a1.items)
+
+abbrev pub type_kind : TypeKind → tree.TypeKind
+type_kind (type_kinds.Named a0) = tree.named a0
+type_kind (type_kinds.Member a0 a1) = tree.member a0 a1
+type_kind (type_kinds.Dollar a0) = tree.dollar a0
+type_kind (type_kinds.Pointer a0) = tree.pointer a0
+type_kind (type_kinds.Distinct a0) = tree.distinct a0
+type_kind (type_kinds.Proc a0) = tree.proc (signature a0.value)
+type_kind (type_kinds.Array a0 a1) = tree.array (length a0) a1
+type_kind (type_kinds.Soa a0 a1) = tree.soa (length a0) a1
+type_kind (type_kinds.Struct a0) = tree.struct (fields a0.items)
+type_kind (type_kinds.Union a0) = tree.union (types a0.items)
+type_kind (type_kinds.Enum a0 a1) = tree.enum (maybe_type a0) (enumerators a1.items)
+
+abbrev pub end_kind : SpanEnd → tree.SpanEnd
+end_kind span_ends.Alone = tree.alone
+end_kind (span_ends.Through a0) = tree.through a0
+end_kind (span_ends.Below a0) = tree.below a0
+
+abbrev pub span_of : Span → tree.Span
+span_of x = tree.span x.from (end_kind x.to)
+
+abbrev pub spans : List Span → tree.Spans
+spans [] = tree.no_spans
+spans (x ∷ xs) = tree.more_spans (span_of x) (spans xs)
+
+abbrev pub cases : List Case → tree.Cases
+cases [] = tree.no_cases
+cases (x ∷ xs) = tree.more_cases x.at (spans x.items.items) (stmts x.body.items) (cases xs)
+
+abbrev pub header_of : Header → tree.Header
+header_of headers.None = tree.no_header
+header_of (headers.Decl a0) = tree.decl_header a0
+header_of (headers.Simple a0) = tree.simple_header a0
+
+abbrev pub else_of : Else → tree.Else
+else_of elses.None = tree.no_else
+else_of (elses.If a0) = tree.else_if a0
+else_of (elses.Body a0) = tree.else_body (stmts a0.items)
+
+abbrev pub initial_kind : Initial → tree.Initial
+initial_kind initials.Zero = tree.zeros
+initial_kind initials.Dashes = tree.dashes
+initial_kind (initials.Values a0) = tree.values (exprs a0.items)
+
+abbrev pub decl_kind : DeclKind → tree.DeclKind
+decl_kind (decl_kinds.Import a0 a1) = tree.import a0 a1
+decl_kind (decl_kinds.Constant a0 a1 a2) = tree.constant a0.items (maybe_type a1) (exprs a2.items)
+decl_kind (decl_kinds.Variable a0 a1 a2) = tree.variable a0.items (maybe_type a1) (initial_kind a2)
+
+abbrev pub stmt_kind : StmtKind → tree.StmtKind
+stmt_kind (stmt_kinds.Declare a0) = tree.declare a0
+stmt_kind (stmt_kinds.Assign a0 a1 a2) = tree.assign (exprs a0.items) a1 (exprs a2.items)
+stmt_kind (stmt_kinds.Eval a0) = tree.eval (exprs a0.items)
+stmt_kind (stmt_kinds.Block a0 a1) = tree.block a0 (stmts a1.items)
+stmt_kind (stmt_kinds.If a0 a1 a2 a3) = tree.if_ (header_of a0) a1 (stmts a2.items) (else_of a3)
+stmt_kind (stmt_kinds.Loop a0 a1 a2 a3 a4) = tree.loop a0 (header_of a1) (maybe_expr a2) (maybe_stmt a3) (stmts a4.items)
+stmt_kind (stmt_kinds.Range a0 a1 a2 a3) = tree.range a0 a1 (span_of a2) (stmts a3.items)
+stmt_kind (stmt_kinds.Switch a0 a1 a2 a3 a4) = tree.switch a0 a1 (header_of a2) (maybe_expr a3) (cases a4.items)
+stmt_kind (stmt_kinds.TypeSwitch a0 a1 a2 a3 a4) = tree.type_switch a0 a1 a2 a3 (cases a4.items)
+stmt_kind (stmt_kinds.Defer a0) = tree.defer a0
+stmt_kind (stmt_kinds.Return a0) = tree.return (exprs a0.items)
+stmt_kind (stmt_kinds.Break a0) = tree.break a0
+stmt_kind (stmt_kinds.Continue a0) = tree.continue a0
+stmt_kind stmt_kinds.Fallthrough = tree.fallthrough

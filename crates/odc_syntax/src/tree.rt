@@ -1,7 +1,10 @@
-//! Trees: what the tokens of a file, a declaration or an expression derive.
+//! Trees: what the tokens of a file, a declaration or an expression derive. A node is a small handle: its
+//! places, and its kind on the heap. A contract sees an `Expr`, a `Type`, a `Stmt` or a `Decl` as the clean
+//! tree of `specs/Tree`.
 
 use crate::token::Token;
 use odc_text::place::Place;
+use std::marker::Model;
 
 /// An expression. Parentheses that only group leave no node: they move `first`.
 #[cycle(trees)]
@@ -11,7 +14,28 @@ pub struct Expr {
     pub first: Place,
     /// The place of the node: of the operator, `[`, `.` or `^` that makes it, else of its first token.
     pub at: Place,
-    pub kind: ExprKind,
+    pub kind: Box<ExprKind>,
+}
+
+impl Model for Expr {
+    ghost use Rattle.odc_syntax.specs.Tree as tree;
+    ghost use Rattle.odc_syntax.specs.Codes.{coded_expr};
+
+    ghost Value = { tree.Expr };
+
+    ghost coded = { coded_expr };
+
+    ghost use Rattle.odc_syntax.specs.View.{expr_kind};
+    ghost use Rattle.odc_syntax.specs.Sizes.{expr_size};
+
+    ghost view = { λ e. tree.expr e.first e.at (expr_kind e.kind.value) };
+
+    ghost size = { expr_size };
+
+    ghost use Rattle.std.proofs.Common.{arith};
+    ghost use Rattle.odc_syntax.specs.Falls.{expr_kind_falls};
+
+    ghost size_decreases = { λ e h. omega (arith, expr_kind_falls e.kind.value) };
 }
 
 /// What kind of expression it is.
@@ -31,31 +55,31 @@ pub enum ExprKind {
     /// `.A`, an enumerator of the type that is wanted.
     Dot(Token),
     /// `e.x`
-    Select(Box<Expr>, Token),
+    Select(Expr, Token),
     /// `e.(T)`
-    Assert(Box<Expr>, Box<Type>),
+    Assert(Expr, Type),
     /// `e^`
-    Deref(Box<Expr>),
+    Deref(Expr),
     /// `e[i]`
-    Index(Box<Expr>, Box<Expr>),
+    Index(Expr, Expr),
     /// `e[a:b]`
-    Cut(Box<Expr>, Option<Box<Expr>>, Option<Box<Expr>>),
+    Cut(Expr, Option<Expr>, Option<Expr>),
     /// `e(x, ..)`, a call or a conversion.
-    Call(Box<Expr>, Vec<Arg>),
+    Call(Expr, Vec<Arg>),
     /// `e or_return`
-    OrReturn(Box<Expr>),
+    OrReturn(Expr),
     /// `T{x, ..}`, or `{x, ..}` of the type that is wanted.
-    Literal(Option<Box<Expr>>, Vec<Arg>),
+    Literal(Option<Expr>, Vec<Arg>),
     /// An operator before its operand.
-    Unary(UnaryOp, Box<Expr>),
+    Unary(UnaryOp, Expr),
     /// An operator between its operands.
-    Binary(BinaryOp, Box<Expr>, Box<Expr>),
+    Binary(BinaryOp, Expr, Expr),
     /// `cast(T)e`
-    Cast(Box<Type>, Box<Expr>),
+    Cast(Type, Expr),
     /// `#caller_location`
     Location,
     /// A type that stands where an expression may.
-    TypeTree(Box<Type>),
+    TypeTree(Type),
     /// A procedure with its body.
     ProcLit(Box<Signature>, Vec<Stmt>),
 }
@@ -134,7 +158,28 @@ pub struct Arg {
 pub struct Type {
     /// The place of its first token.
     pub at: Place,
-    pub kind: TypeKind,
+    pub kind: Box<TypeKind>,
+}
+
+impl Model for Type {
+    ghost use Rattle.odc_syntax.specs.Tree as tree;
+    ghost use Rattle.odc_syntax.specs.Codes.{coded_type};
+
+    ghost Value = { tree.Type_ };
+
+    ghost coded = { coded_type };
+
+    ghost use Rattle.odc_syntax.specs.View.{type_kind};
+    ghost use Rattle.odc_syntax.specs.Sizes.{type_size};
+
+    ghost view = { λ e. tree.type e.at (type_kind e.kind.value) };
+
+    ghost size = { type_size };
+
+    ghost use Rattle.std.proofs.Common.{arith};
+    ghost use Rattle.odc_syntax.specs.Falls.{type_kind_falls};
+
+    ghost size_decreases = { λ e h. omega (arith, type_kind_falls e.kind.value) };
 }
 
 /// What kind of type it is.
@@ -148,21 +193,21 @@ pub enum TypeKind {
     /// `$T`
     Dollar(Token),
     /// `^T`
-    Pointer(Box<Type>),
+    Pointer(Type),
     /// `distinct T`
-    Distinct(Box<Type>),
+    Distinct(Type),
     /// A procedure's type.
     Proc(Box<Signature>),
     /// `[..]T`
-    Array(Length, Box<Type>),
+    Array(Length, Type),
     /// `#soa[..]T`
-    Soa(Length, Box<Type>),
+    Soa(Length, Type),
     /// `struct {..}`
     Struct(Vec<Field>),
     /// `union {..}`
     Union(Vec<Type>),
     /// `enum T {..}`
-    Enum(Option<Box<Type>>, Vec<Enumerator>),
+    Enum(Option<Type>, Vec<Enumerator>),
 }
 
 /// What stands in the square brackets of a type.
@@ -178,7 +223,7 @@ pub enum Length {
     /// `$N`
     Dollar(Token),
     /// A number of elements.
-    Fixed(Box<Expr>),
+    Fixed(Expr),
 }
 
 /// Fields of one type.
@@ -194,7 +239,7 @@ pub struct Field {
 #[derive(Drop)]
 pub struct Enumerator {
     pub name: Token,
-    pub value: Option<Box<Expr>>,
+    pub value: Option<Expr>,
 }
 
 /// What a procedure takes and gives.
@@ -216,7 +261,7 @@ pub enum Results {
     /// Nothing.
     None,
     /// `-> T`
-    One(Box<Type>),
+    One(Type),
     /// `-> (..)`
     List(Vec<Param>),
 }
@@ -229,7 +274,7 @@ pub struct Param {
     pub dollar: bool,
     pub names: Vec<Token>,
     pub ty: ParamType,
-    pub default: Option<Box<Expr>>,
+    pub default: Option<Expr>,
 }
 
 /// What type a parameter is given.
@@ -237,7 +282,7 @@ pub struct Param {
 #[derive(Drop)]
 pub enum ParamType {
     /// A type.
-    Type(Box<Type>),
+    Type(Type),
     /// `typeid`
     Typeid,
     /// That of its default.
@@ -250,7 +295,28 @@ pub enum ParamType {
 pub struct Stmt {
     /// The place of an assignment is that of its operator; of another statement, of its first token.
     pub at: Place,
-    pub kind: StmtKind,
+    pub kind: Box<StmtKind>,
+}
+
+impl Model for Stmt {
+    ghost use Rattle.odc_syntax.specs.Tree as tree;
+    ghost use Rattle.odc_syntax.specs.Codes.{coded_stmt};
+
+    ghost Value = { tree.Stmt };
+
+    ghost coded = { coded_stmt };
+
+    ghost use Rattle.odc_syntax.specs.View.{stmt_kind};
+    ghost use Rattle.odc_syntax.specs.Sizes.{stmt_size};
+
+    ghost view = { λ e. tree.stmt e.at (stmt_kind e.kind.value) };
+
+    ghost size = { stmt_size };
+
+    ghost use Rattle.std.proofs.Common.{arith};
+    ghost use Rattle.odc_syntax.specs.Falls.{stmt_kind_falls};
+
+    ghost size_decreases = { λ e h. omega (arith, stmt_kind_falls e.kind.value) };
 }
 
 /// What kind of statement it is.
@@ -258,7 +324,7 @@ pub struct Stmt {
 #[derive(Drop)]
 pub enum StmtKind {
     /// A declaration.
-    Declare(Box<Decl>),
+    Declare(Decl),
     /// `a, b = x, y`, or with the operator of `+=` and its like.
     Assign(Vec<Expr>, AssignOp, Vec<Expr>),
     /// Expressions alone.
@@ -266,18 +332,18 @@ pub enum StmtKind {
     /// `{..}`, with its label.
     Block(Option<Token>, Vec<Stmt>),
     /// `if`: what stands before the condition, the condition, the body, and what follows `else`.
-    If(Header, Box<Expr>, Vec<Stmt>, Else),
+    If(Header, Expr, Vec<Stmt>, Else),
     /// `for`: its label, what stands before the condition, the condition, what is done behind the
     /// body, and the body.
-    Loop(Option<Token>, Header, Option<Box<Expr>>, Option<Box<Stmt>>, Vec<Stmt>),
+    Loop(Option<Token>, Header, Option<Expr>, Option<Stmt>, Vec<Stmt>),
     /// `for .. in`: its label, the variables, what they range over, and the body.
     Range(Option<Token>, RangeNames, Span, Vec<Stmt>),
     /// `switch`: its label, its word, what stands before the value, the value, and the cases.
-    Switch(Option<Token>, SwitchWord, Header, Option<Box<Expr>>, Vec<Case>),
+    Switch(Option<Token>, SwitchWord, Header, Option<Expr>, Vec<Case>),
     /// `switch .. in`: its label, its word, the variable, the value, and the cases.
-    TypeSwitch(Option<Token>, SwitchWord, Token, Box<Expr>, Vec<Case>),
+    TypeSwitch(Option<Token>, SwitchWord, Token, Expr, Vec<Case>),
     /// `defer`
-    Defer(Box<Stmt>),
+    Defer(Stmt),
     /// `return`
     Return(Vec<Expr>),
     /// `break`, with its label.
@@ -312,9 +378,9 @@ pub enum Header {
     /// Nothing.
     None,
     /// A declaration.
-    Decl(Box<Decl>),
+    Decl(Decl),
     /// An assignment or expressions.
-    Simple(Box<Stmt>),
+    Simple(Stmt),
 }
 
 /// What an `if` does where its condition is false.
@@ -324,7 +390,7 @@ pub enum Else {
     /// Nothing.
     None,
     /// Another `if`.
-    If(Box<Stmt>),
+    If(Stmt),
     /// A body.
     Body(Vec<Stmt>),
 }
@@ -353,9 +419,9 @@ pub enum SpanEnd {
     /// It is the value alone.
     Alone,
     /// `..=`
-    Through(Box<Expr>),
+    Through(Expr),
     /// `..<`
-    Below(Box<Expr>),
+    Below(Expr),
 }
 
 /// A case of a switch. One without items is the default.
@@ -374,7 +440,28 @@ pub struct Case {
 pub struct Decl {
     /// The place of its first token.
     pub at: Place,
-    pub kind: DeclKind,
+    pub kind: Box<DeclKind>,
+}
+
+impl Model for Decl {
+    ghost use Rattle.odc_syntax.specs.Tree as tree;
+    ghost use Rattle.odc_syntax.specs.Codes.{coded_decl};
+
+    ghost Value = { tree.Decl };
+
+    ghost coded = { coded_decl };
+
+    ghost use Rattle.odc_syntax.specs.View.{decl_kind};
+    ghost use Rattle.odc_syntax.specs.Sizes.{decl_size};
+
+    ghost view = { λ e. tree.decl e.at (decl_kind e.kind.value) };
+
+    ghost size = { decl_size };
+
+    ghost use Rattle.std.proofs.Common.{arith};
+    ghost use Rattle.odc_syntax.specs.Falls.{decl_kind_falls};
+
+    ghost size_decreases = { λ e h. omega (arith, decl_kind_falls e.kind.value) };
 }
 
 /// What kind of declaration it is.
@@ -384,9 +471,9 @@ pub enum DeclKind {
     /// `import`, with the name if it is given one, and the path.
     Import(Option<Token>, Token),
     /// `X : T : e`, or without the type.
-    Constant(Vec<Token>, Option<Box<Type>>, Vec<Expr>),
+    Constant(Vec<Token>, Option<Type>, Vec<Expr>),
     /// `x : T = e`, without the type, or without the value.
-    Variable(Vec<Token>, Option<Box<Type>>, Initial),
+    Variable(Vec<Token>, Option<Type>, Initial),
 }
 
 /// What a variable begins with.

@@ -3,10 +3,11 @@
 #![tactic(auto)]
 
 use odc_lex::{LexError, lex};
+use odc_lookahead::error::ParseError;
 use odc_parse::parse::parse_file;
-use odc_parse_base::error::ParseError;
 use odc_text::code::{Fault, code_name};
 use odc_text::place::FileId;
+use odc_tree::discard::discard_decls;
 use std::io;
 use std::io::Read;
 
@@ -24,7 +25,10 @@ fn main(rt: HostRuntime) -> io::Result<()> {
     match parse_file(rt.alloc(), &tokens) {
         Ok(tree) => {
             let (count, declarations) = (tokens.list.len(), tree.decls.len());
-            println!(rt; "{count} tokens, {declarations} declarations")
+            discard_decls(
+                tree.decls,
+                println!(rt; "{count} tokens, {declarations} declarations"),
+            )
         }
         Err(ParseError::Fault(fault)) => say(rt, fault),
         Err(ParseError::Memory) => println!(rt; "memory ran out"),

@@ -1,114 +1,108 @@
 use Rattle.std.proofs.Common.{◌≡◌, suc, ◌+◌, ◌-◌, ◌∙◌, ◌∷◌, refl, sym, ap, length, arith, true, false, inl, inr, max, Some, ◌++◌, [], subst, List, IfOk, IfErr}
-use Rattle.odc_syntax.specs.declared.grammar.Level.TheVariants.{Or, And, Comparison, Sum, Product}
+use Rattle.odc_syntax.specs.declared.grammar.Level.TheVariants.{Or, And, Comparison, Sum}
 use Rattle.odc_syntax.specs.declared.token.TokenKind.TheVariants as kind
 use Rattle.odc_syntax.specs.Grammar as g
 use Rattle.odc_syntax.specs.Grammar.{chains, inside}
-use Rattle.odc_syntax.specs.View.{expr, type, kind as kind_of, fields, types, result_kind, decl, exprs, stmt, stmts}
+use Rattle.odc_syntax.specs.View.{expr, type, expr_kind as kind_of, fields, types, result_kind, decl, exprs, stmt, stmts, maybe_expr, maybe_type, enumerators, params, signature, header_of, spans, cases, span_of}
 use Rattle.odc_syntax.specs.declared.grammar.Use.TheVariants.{Operand}
-use Rattle.odc_parse_base.specs.declared.stop.Stop.TheVariants as stop
-use Rattle.odc_parse_base.specs.declared.operand.OperandForm.TheVariants as form
-use Rattle.odc_parse_base.specs.Exact.{one, Exact, Yes}
-use Rattle.odc_parse_base.specs.Forms.{leaf_view}
-use Rattle.odc_parse_base.specs.Parts.{arguments, arg_item, high_line}
-use Rattle.odc_parse_base.specs.Sets.{continues, starts_suffix, nothing_continues, continues_argument}
+use Rattle.odc_lookahead.specs.declared.stop.Stop.TheVariants as stop
+use Rattle.odc_lookahead.specs.declared.operand.OperandForm.TheVariants as form
+use Rattle.odc_lookahead.specs.Exact.{one, Exact, Yes}
+use Rattle.odc_lookahead.specs.Forms.{leaf_view}
+use Rattle.odc_lookahead.specs.Parts.{arguments, arg_item, high_line}
+use Rattle.odc_lookahead.specs.Sets.{continues, starts_suffix, nothing_continues, continues_argument}
 use Rattle.odc_parse_expr.specs.Suffixes.{high_of, argument, argument_list}
-use Rattle.odc_parse_base.proofs.Samples as sample
-use Rattle.odc_parse_base.proofs.Answering.{empty_broken, answer_is, bound_is}
-use Rattle.odc_parse_base.proofs.Carrying.{because, because_to, from_token, to_token, to_token_to, at_front, at_front_to, at_zero, found_at, found_from, over_by}
-use Rattle.odc_parse_base.proofs.Nesting.{Never, once_chained}
-use Rattle.odc_parse_base.proofs.BinaryLemmas.{many_clear, never_clear}
-use Rattle.odc_parse_base.proofs.ChainLemmas.{Operators, Comparisons, operators_first, operators_refused, operators_chained, operator_more, operator_refused, operator_deep, operator_none, comparison_first, comparison_refused, comparison_done, item_at, chain_at, product_item}
-use Rattle.odc_parse_base.proofs.UnaryLemmas.{sign_deep, sign_found, sign_refused, operand_same}
-use Rattle.odc_parse_base.proofs.CastLemmas.{cast_deep, cast_kind, cast_unopened, cast_type_refused, cast_unclosed, cast_refused, cast_answer}
-use Rattle.odc_parse_base.proofs.PostfixEnds.{suffixes_first_to, suffix_over, suffix_more_to, suffix_refused_to, suffix_none_to}
-use Rattle.odc_parse_base.proofs.EndLemmas.{found_to, refused_to, to_refused, as_refused, to_found}
-use Rattle.odc_parse_base.proofs.FormLemmas.{no_suffix}
-use Rattle.odc_parse_base.proofs.SuffixLemmas.{dot_broken}
-use Rattle.odc_parse_base.proofs.SuffixAnswers.{select_answer, assert_refused, assert_unclosed, assert_answer, operand_refused, deref_answer, or_return_answer, member_kind, bracket_kind, no_form, call_answer, call_refused, literal_answer, literal_refused, open_cut_answer, open_cut_refused, index_refused, index_answer, index_deep, colon_refused, cut_answer, cut_refused, high_none_answer, high_refused, high_unclosed, high_answer}
-use Rattle.odc_parse_base.proofs.ArgLemmas.{signed_argument, signed_refused, plain_argument, plain_refused, named_argument, named_refused}
-use Rattle.odc_parse_base.proofs.ArgumentAnswers.{arguments_none, arguments_start, argument_refused, item_read, ended_of, again_of, arguments_answer, arguments_again, arguments_refused}
-use Rattle.odc_parse_base.proofs.OperandAnswers.{leaf_answer, nothing_broken, operand_deep, dot_answer, dot_refused, group_refused, group_unclosed, group_answer, brace_answer, brace_refused, constructed_found, constructed_refused, type_answer, type_refused, proc_first, no_other}
+use Rattle.odc_lookahead.proofs.reading.Samples as sample
+use Rattle.odc_lookahead.proofs.reading.Answering.{empty_broken, answer_is, bound_is}
+use Rattle.odc_lookahead.proofs.reading.Carrying.{because, because_to, from_token, to_token, to_token_to, at_front, at_front_to, at_zero, found_at, found_from, over_by}
+use Rattle.odc_lookahead.proofs.reading.Nesting.{Never, once_chained}
+use Rattle.odc_lookahead.proofs.expr.BinaryLemmas.{many_clear, never_clear}
+use Rattle.odc_lookahead.proofs.expr.ChainLemmas.{Operators, Comparisons, operators_first, operators_refused, operators_chained, operator_more, operator_refused, operator_deep, operator_none, comparison_first, comparison_refused, comparison_done, item_at, chain_at, product_item}
+use Rattle.odc_lookahead.proofs.expr.UnaryLemmas.{sign_deep, sign_found, sign_refused, operand_same}
+use Rattle.odc_lookahead.proofs.types.CastLemmas.{cast_deep, cast_kind, cast_unopened, cast_type_refused, cast_unclosed, cast_refused, cast_answer}
+use Rattle.odc_lookahead.proofs.expr.PostfixEnds.{suffixes_first_to, suffix_over, suffix_more_to, suffix_refused_to, suffix_none_to}
+use Rattle.odc_lookahead.proofs.reading.EndLemmas.{found_to, refused_to, to_refused, as_refused, to_found}
+use Rattle.odc_lookahead.proofs.expr.FormLemmas.{no_suffix}
+use Rattle.odc_lookahead.proofs.expr.SuffixLemmas.{dot_broken}
+use Rattle.odc_lookahead.proofs.expr.SuffixAnswers.{select_answer, assert_refused, assert_unclosed, assert_answer, operand_refused, deref_answer, or_return_answer, member_kind, bracket_kind, no_form, call_answer, call_refused, literal_answer, literal_refused, open_cut_answer, open_cut_refused, index_refused, index_answer, index_deep, colon_refused, cut_answer, cut_refused, high_none_answer, high_refused, high_unclosed, high_answer}
+use Rattle.odc_lookahead.proofs.expr.ArgLemmas.{signed_argument, signed_refused, plain_argument, plain_refused, named_argument, named_refused}
+use Rattle.odc_lookahead.proofs.expr.ArgumentAnswers.{arguments_none, arguments_start, argument_refused, item_read, ended_of, again_of, arguments_answer, arguments_again, arguments_refused}
+use Rattle.odc_lookahead.proofs.types.OperandAnswers.{leaf_answer, nothing_broken, operand_deep, dot_answer, dot_refused, group_refused, group_unclosed, group_answer, brace_answer, brace_refused, constructed_found, constructed_refused, type_answer, type_refused, proc_first, no_other}
 use Rattle.odc_syntax.specs.Tree as tree
 use Rattle.odc_syntax.specs.View as view
-use Rattle.odc_parse_base.specs.TypeParts.{length_line, fields_line, types_line, enumerators_line, base_line, params_line, named_line, bare_line, typed_line}
-use Rattle.odc_nodes.specs.Given.{given_expr, given_type, maybe}
-use Rattle.odc_nodes.specs.TypeViews.{enumerators, params, signature}
-use Rattle.odc_parse_base.proofs.ProcPlaces.{proc_place}
-use Rattle.odc_parse_base.proofs.TypeExits.{ended_by, again_by, because_as, front_as, inside_found, inside_refused, built_same}
-use Rattle.odc_parse_base.proofs.TypeStarts.{own_deep, own_kind, built_deep, built_kind, none_built}
-use Rattle.odc_parse_base.proofs.TypeAnswers.{pointer_answer, pointer_refused, distinct_answer, distinct_refused, proc_answer, proc_refused, word_answer, word_refused, word_missing, group_type_refused, group_type_unclosed, group_type_answer, struct_unopened, struct_refused, struct_answer, union_unopened, union_refused, union_answer}
-use Rattle.odc_parse_base.proofs.ArrayAnswers.{soa_unopened, bracketed_is, length_refused, element_refused, bracket_answer, counted_unclosed, counted_refused, counted_broken, counted_answer, slice_answer, dynamic_answer, dynamic_refused, fixed_refused, fixed_unclosed, fixed_answer}
-use Rattle.odc_parse_base.proofs.EnumAnswers.{base_none, base_refused, base_unopened, base_answer, enum_base_refused, enum_refused, enum_answer}
-use Rattle.odc_parse_base.proofs.FieldAnswers.{field_unnamed, field_refused, field_answer, not_given, given_refused, given_answer, enumerator_unnamed, enumerator_refused, enumerator_answer}
-use Rattle.odc_parse_base.proofs.ListAnswers.{item_refused, item_as, list_answer, list_goes_on, list_stuck}
-use Rattle.odc_parse_base.proofs.TypeLists.{field_list, type_list, enumerator_list, named_list, bare_list, fields_begin, fields_empty, types_begin, types_empty, enumerators_begin, enumerators_empty, named_begin, bare_begin, bare_empty}
-use Rattle.odc_parse_base.proofs.SignatureAnswers.{no_results, results_empty, results_refused, results_answer, result_refused, result_answer, signature_unopened, signature_refused, signature_results_refused, signature_answer}
-use Rattle.odc_parse_base.proofs.ParamAnswers as of_params
-use Rattle.odc_parse_base.proofs.DollarAnswers.{dollar_unnamed, dollar_typeid_answer, dollar_typeid_refused, dollar_int_deep, dollar_int_answer, dollar_int_refused, dollar_untyped}
-use Rattle.odc_parse_base.proofs.ParamsChoice.{blocked_short}
-use Rattle.odc_parse_base.proofs.ParamsAnswers.{front_short, params_named, params_bare, params_unnamed, takes_dot, not_empty}
-use Rattle.odc_parse_base.proofs.ParamsCrossed.{crossed_found}
-use Rattle.odc_parse_base.proofs.ParamsEnds.{found_near}
-use Rattle.odc_parse_base.proofs.ParamsExits.{front_at, dollar_named, at_none, crossed_refused, stands, stands_at, brace_no_dot, bodied, body_stopped}
-use Rattle.odc_parse_base.proofs.ProcedureAnswers as of_procedures
+use Rattle.odc_lookahead.specs.TypeParts.{length_line, fields_line, types_line, enumerators_line, base_line, params_line, named_line, bare_line, typed_line}
+use Rattle.odc_lookahead.proofs.types.ProcPlaces.{proc_place}
+use Rattle.odc_lookahead.proofs.types.TypeExits.{ended_by, again_by, because_as, front_as, inside_found, inside_refused, built_same}
+use Rattle.odc_lookahead.proofs.expr.TypeStarts.{own_deep, own_kind, built_deep, built_kind, none_built}
+use Rattle.odc_lookahead.proofs.types.TypeAnswers.{pointer_answer, pointer_refused, distinct_answer, distinct_refused, proc_answer, proc_refused, word_answer, word_refused, word_missing, group_type_refused, group_type_unclosed, group_type_answer, struct_unopened, struct_refused, struct_answer, union_unopened, union_refused, union_answer}
+use Rattle.odc_lookahead.proofs.types.ArrayAnswers.{soa_unopened, bracketed_is, length_refused, element_refused, bracket_answer, counted_unclosed, counted_refused, counted_broken, counted_answer, slice_answer, dynamic_answer, dynamic_refused, fixed_refused, fixed_unclosed, fixed_answer}
+use Rattle.odc_lookahead.proofs.types.EnumAnswers.{base_none, base_refused, base_unopened, base_answer, enum_base_refused, enum_refused, enum_answer}
+use Rattle.odc_lookahead.proofs.types.FieldAnswers.{field_unnamed, field_refused, field_answer, not_given, given_refused, given_answer, enumerator_unnamed, enumerator_refused, enumerator_answer}
+use Rattle.odc_lookahead.proofs.separated.ListAnswers.{item_refused, item_as, list_answer, list_goes_on, list_stuck}
+use Rattle.odc_lookahead.proofs.types.TypeLists.{field_list, type_list, enumerator_list, named_list, bare_list, fields_begin, fields_empty, types_begin, types_empty, enumerators_begin, enumerators_empty, named_begin, bare_begin, bare_empty}
+use Rattle.odc_lookahead.proofs.types.SignatureAnswers.{no_results, results_empty, results_refused, results_answer, result_refused, result_answer, signature_unopened, signature_refused, signature_results_refused, signature_answer}
+use Rattle.odc_lookahead.proofs.params.ParamAnswers as of_params
+use Rattle.odc_lookahead.proofs.params.DollarAnswers.{dollar_unnamed, dollar_typeid_answer, dollar_typeid_refused, dollar_int_deep, dollar_int_answer, dollar_int_refused, dollar_untyped}
+use Rattle.odc_lookahead.proofs.params.ParamsChoice.{blocked_short}
+use Rattle.odc_lookahead.proofs.params.ParamsAnswers.{front_short, params_named, params_bare, params_unnamed, takes_dot, not_empty}
+use Rattle.odc_lookahead.proofs.params.ParamsCrossed.{crossed_found}
+use Rattle.odc_lookahead.proofs.params.ParamsEnds.{found_near}
+use Rattle.odc_lookahead.proofs.params.ParamsExits.{front_at, dollar_named, at_none, crossed_refused, stands, stands_at, brace_no_dot, bodied, body_stopped}
+use Rattle.odc_lookahead.proofs.types.ProcedureAnswers as of_procedures
 use Rattle.odc_syntax.specs.declared.grammar.Mode.TheVariants as mode
-use Rattle.odc_parse_base.specs.declared.statement_form.StatementForm.TheVariants as statement_form
-use Rattle.odc_nodes.specs.StmtViews.{header_of}
-use Rattle.odc_parse_base.proofs.BlockLemmas.{alone_answer, alone_refused, block_answer, block_refused, body_answer, body_refused, do_answer, do_refused, no_body}
-use Rattle.odc_parse_base.proofs.Deciding.{lower_found}
-use Rattle.odc_parse_base.proofs.DeclarationAnswers.{headed_at, typed_behind}
-use Rattle.odc_parse_base.proofs.DeclarationLemmas.{constant_answer, constant_refused, declaration_deep, declaration_names_refused, declaration_no_colon, inferred_answer, inferred_refused, no_declaration}
-use Rattle.odc_parse_base.proofs.DeclarationLemmas as declaring
-use Rattle.odc_parse_base.proofs.Depths.{at_depth, at_tokens, found_depth, found_front, refused_depth}
-use Rattle.odc_parse_base.proofs.ElseViews.{kind-Body}
-use Rattle.odc_parse_base.proofs.ExprsLemmas.{exprs_answer, exprs_deep, exprs_first, exprs_more_read, exprs_more_refused, exprs_refused}
-use Rattle.odc_parse_base.proofs.HeadAnswers.{closed_at, condition_at, condition_is, condition_within, goes_behind}
-use Rattle.odc_parse_base.proofs.HeadExpressions.{head_alone, head_clause_refused, head_over, head_single_refused, head_zero}
-use Rattle.odc_parse_base.proofs.HeadLemmas.{condition_answer, condition_refused, head_declaration_refused, head_listed_refused, head_unclosed}
-use Rattle.odc_parse_base.proofs.HeaderFacts.{expression_at, listed_at, single_at}
-use Rattle.odc_parse_base.proofs.IfLemmas.{elif_answer, elif_refused, else_answer, else_over, else_refused, if_alone, if_body_refused, if_deep, if_head_read, if_head_refused, no_if}
-use Rattle.odc_parse_base.proofs.InitialLemmas.{begun_answer, begun_deep, begun_refused, dashes_answer, valued_answer, valued_deep, valued_refused, zeros_answer}
-use Rattle.odc_parse_base.proofs.LeavingLemmas.{return_alone, return_answer, return_refused}
-use Rattle.odc_parse_base.proofs.NamedLemmas.{declare_answer, declare_refused, label_answer, label_refused, named_form}
-use Rattle.odc_parse_base.proofs.RunBounds.{head_run_over}
-use Rattle.odc_parse_base.proofs.SimpleAnswers.{assign_answer, assign_over, begins_alone, begins_more, eval_answer, values_refused}
-use Rattle.odc_parse_base.proofs.SimpleLemmas.{simple_refused, simple_zero}
-use Rattle.odc_parse_base.proofs.StatementBounds.{named_over, statement_zero}
-use Rattle.odc_parse_base.proofs.StatementColons.{colon_over, colon_type_refused, named_alone}
+use Rattle.odc_lookahead.specs.declared.statement_form.StatementForm.TheVariants as statement_form
+use Rattle.odc_lookahead.proofs.stmts.BlockLemmas.{alone_answer, alone_refused, block_answer, block_refused, body_answer, body_refused, do_answer, do_refused, no_body}
+use Rattle.odc_lookahead.proofs.reading.Deciding.{lower_found}
+use Rattle.odc_lookahead.proofs.stmts.DeclarationAnswers.{headed_at, typed_behind}
+use Rattle.odc_lookahead.proofs.stmts.DeclarationLemmas.{constant_answer, constant_refused, declaration_deep, declaration_names_refused, declaration_no_colon, inferred_answer, inferred_refused, no_declaration}
+use Rattle.odc_lookahead.proofs.stmts.DeclarationLemmas as declaring
+use Rattle.odc_lookahead.proofs.reading.Depths.{at_depth, at_tokens, found_depth, found_front, refused_depth}
+use Rattle.odc_lookahead.proofs.expr.ExprsLemmas.{exprs_answer, exprs_deep, exprs_first, exprs_more_read, exprs_more_refused, exprs_refused}
+use Rattle.odc_lookahead.proofs.headers.HeadAnswers.{closed_at, condition_at, condition_is, condition_within, goes_behind}
+use Rattle.odc_lookahead.proofs.headers.HeadExpressions.{head_alone, head_clause_refused, head_over, head_single_refused, head_zero}
+use Rattle.odc_lookahead.proofs.headers.HeadLemmas.{condition_answer, condition_refused, head_declaration_refused, head_listed_refused, head_unclosed}
+use Rattle.odc_lookahead.proofs.headers.HeaderFacts.{expression_at, listed_at, single_at}
+use Rattle.odc_lookahead.proofs.headers.IfLemmas.{elif_answer, elif_refused, else_answer, else_over, else_refused, if_alone, if_body_refused, if_deep, if_head_read, if_head_refused, no_if}
+use Rattle.odc_lookahead.proofs.stmts.InitialLemmas.{begun_answer, begun_deep, begun_refused, dashes_answer, valued_answer, valued_deep, valued_refused, zeros_answer}
+use Rattle.odc_lookahead.proofs.stmts.LeavingLemmas.{return_alone, return_answer, return_refused}
+use Rattle.odc_lookahead.proofs.stmts.NamedLemmas.{declare_answer, declare_refused, label_answer, label_refused, named_form}
+use Rattle.odc_lookahead.proofs.headers.RunBounds.{head_run_over}
+use Rattle.odc_lookahead.proofs.stmts.SimpleAnswers.{assign_answer, assign_over, begins_alone, begins_more, eval_answer, values_refused}
+use Rattle.odc_lookahead.proofs.stmts.SimpleLemmas.{simple_refused, simple_zero}
+use Rattle.odc_lookahead.proofs.stmts.StatementBounds.{named_over, statement_zero}
+use Rattle.odc_lookahead.proofs.stmts.StatementColons.{colon_over, colon_type_refused, named_alone}
 use Rattle.odc_parse_expr.proofs.StatementExits.{if_over, if_read, no_block, placed_so, shorter_by, undeclared_exact}
-use Rattle.odc_parse_base.proofs.StatementForms.{named_kind}
-use Rattle.odc_parse_base.proofs.StatementLemmas.{bare_answer, bare_refused, defer_answer, defer_refused, if_same, simple_same, some_stmt}
-use Rattle.odc_parse_base.proofs.StmtsLemmas.{braces_answer, braces_refused, braces_unclosed, skips_end, stmt_read, stmt_refused, stmts_again, stmts_behind, stmts_deep, stmts_end_answer, stmts_last_answer, stmts_start}
-use Rattle.odc_parse_base.specs.BodyParts.{braces_line, head_line}
+use Rattle.odc_lookahead.proofs.stmts.StatementForms.{named_kind}
+use Rattle.odc_lookahead.proofs.stmts.StatementLemmas.{bare_answer, bare_refused, defer_answer, defer_refused, if_same, simple_same, some_stmt}
+use Rattle.odc_lookahead.proofs.stmts.StmtsLemmas.{braces_answer, braces_refused, braces_unclosed, skips_end, stmt_read, stmt_refused, stmts_again, stmts_behind, stmts_deep, stmts_end_answer, stmts_last_answer, stmts_start}
+use Rattle.odc_lookahead.specs.BodyParts.{braces_line, head_line}
 use Rattle.odc_parse_expr.specs.Conditionals.{head_of}
-use Rattle.odc_parse_base.specs.Headers.{ClosedFrom, begun, closed, declared, evaluated, listed}
-use Rattle.odc_parse_base.specs.Read.{refused, seen}
-use Rattle.odc_parse_base.specs.Runs.{NotLabelled}
-use Rattle.odc_parse_base.specs.StatementSets.{continues_declaration, continues_exprs, continues_head, continues_simple, continues_statement, continues_statements}
-use Rattle.odc_parse_base.specs.Statements.{LabelledRead, labelled_part}
+use Rattle.odc_lookahead.specs.Headers.{ClosedFrom, begun, closed, declared, evaluated, listed}
+use Rattle.odc_lookahead.specs.Read.{refused, seen}
+use Rattle.odc_lookahead.specs.Runs.{NotLabelled}
+use Rattle.odc_lookahead.specs.StatementSets.{continues_declaration, continues_exprs, continues_head, continues_simple, continues_statement, continues_statements}
+use Rattle.odc_lookahead.specs.Statements.{LabelledRead, labelled_part}
 use Rattle.odc_syntax.specs.declared.grammar.Mode.TheVariants.{Free, Header}
 use Rattle.odc_syntax.specs.declared.token.Token.{Token}
-use Rattle.odc_syntax.specs.declared.tree.Expr.{Expr}
-use Rattle.odc_syntax.specs.declared.tree.Stmt.{Stmt}
-use Rattle.odc_nodes.specs.SwitchViews.{spans, cases, span_of}
-use Rattle.odc_parse_base.specs.Headers as header
+use Rattle.odc_syntax.specs.Tree.{Expr, Stmt}
+use Rattle.odc_lookahead.specs.Headers as header
 use Rattle.odc_parse_expr.specs.SwitchForms as switch_forms
-use Rattle.odc_parse_base.specs.SwitchParts.{switch_head, by_value, switched}
-use Rattle.odc_parse_base.specs.SwitchSets.{continues_span, begins_items, continues_cases, before_cases}
-use Rattle.odc_parse_base.proofs.SpanLemmas.{span_refused, from_read, span_alone_answer, through_refused, through_answer, through_deep, below_refused, below_answer, below_deep}
-use Rattle.odc_parse_base.proofs.ItemLemmas.{items_refused, items_first, items_none_answer, items_more_refused, items_more_read, items_deep, items_answer}
-use Rattle.odc_parse_base.proofs.CasesLemmas.{cases_start, case_at, case_deep, case_items_refused, case_items, case_no_colon, case_colon, case_body_refused, case_answer, cases_answer}
-use Rattle.odc_parse_base.proofs.SwitchLemmas.{switch_head_refused}
-use Rattle.odc_parse_base.proofs.SwitchHeads.{typed_refused, typed_answer, head_none, single_none, single_refused, unnamed_refused}
-use Rattle.odc_parse_base.proofs.SwitchValues.{value_alone, value_over, assigned_refused, declared_refused, listed_refused, value_refused, value_answer, value_none, zero_over, zero_alone}
-use Rattle.odc_parse_base.proofs.SwitchValues as switch_values
-use Rattle.odc_parse_base.proofs.SwitchRuns.{listed_over}
-use Rattle.odc_parse_base.proofs.SwitchAnswers.{switch_unopened, switch_cases_refused, switch_unclosed, switch_answer, goes_on_clause, closed_as, condition_as}
+use Rattle.odc_lookahead.specs.SwitchParts.{switch_head, by_value, switched}
+use Rattle.odc_lookahead.specs.SwitchSets.{continues_span, begins_items, continues_cases, before_cases}
+use Rattle.odc_lookahead.proofs.loops.SpanLemmas.{span_refused, from_read, span_alone_answer, through_refused, through_answer, through_deep, below_refused, below_answer, below_deep}
+use Rattle.odc_lookahead.proofs.switches.ItemLemmas.{items_refused, items_first, items_none_answer, items_more_refused, items_more_read, items_deep, items_answer}
+use Rattle.odc_lookahead.proofs.switches.CasesLemmas.{cases_start, case_at, case_deep, case_items_refused, case_items, case_no_colon, case_colon, case_body_refused, case_answer, cases_answer}
+use Rattle.odc_lookahead.proofs.switches.SwitchLemmas.{switch_head_refused}
+use Rattle.odc_lookahead.proofs.switches.SwitchHeads.{typed_refused, typed_answer, head_none, single_none, single_refused, unnamed_refused}
+use Rattle.odc_lookahead.proofs.switches.SwitchValues.{value_alone, value_over, assigned_refused, declared_refused, listed_refused, value_refused, value_answer, value_none, zero_over, zero_alone}
+use Rattle.odc_lookahead.proofs.switches.SwitchValues as switch_values
+use Rattle.odc_lookahead.proofs.switches.SwitchRuns.{listed_over}
+use Rattle.odc_lookahead.proofs.switches.SwitchAnswers.{switch_unopened, switch_cases_refused, switch_unclosed, switch_answer, goes_on_clause, condition_as}
 use Rattle.odc_parse_expr.specs.LoopForms as loop_form
-use Rattle.odc_parse_base.specs.Loops.{steps_line, after_line}
-use Rattle.odc_parse_base.specs.RunBounds as run_bound
-use Rattle.odc_parse_base.proofs.LastItems as last_items
-use Rattle.odc_parse_base.proofs.ListBounds.{run_length}
+use Rattle.odc_lookahead.specs.Loops.{steps_line, after_line}
+use Rattle.odc_lookahead.specs.RunBounds as run_bound
+use Rattle.odc_lookahead.proofs.separated.LastItems as last_items
+use Rattle.odc_lookahead.proofs.headers.ListBounds.{run_length}
 use Rattle.odc_parse_expr.proofs.LoopExits as loop_exit
 use Rattle.odc_parse_expr.proofs.LoopFronts as loop_front
 use Rattle.odc_parse_expr.proofs.LoopHeads as loop_head
@@ -126,14 +120,14 @@ binary::chained-loop-op-init t c = record {
 
 pub binary::chained-returns-then-height-from-clause-exact : goal.binary::chained-returns-then-height-from-clause-exact
 binary::chained-returns-then-height-from-clause-exact t c = λ e.
-    because (one (g.chain c.args.of c.args.mode)) (continues c.args.of c.args.mode) c.args.depth c.args.tokens.now (stop.Deep (length c.in-Some.behind.now)) c.discard.result c.discard.ensures
+    because (one (g.chain c.args.of c.args.mode)) (continues c.args.of c.args.mode) c.args.depth c.args.tokens.now (stop.Deep (length c.in-Some.behind.now)) c.discard_expr.result c.discard_expr.ensures
     (operator_deep c.args.of c.args.mode (Operators c.args.of c.args.mode) (Operators c.args.of c.args.mode) (operators_chained c.args.of c.args.mode e) (many_clear c.args.of c.args.mode e)
     c.args.depth c.args.tokens.now (expr c.loop-op.e) c.loop-op.height c.loop-op.rest.now c.in-Some.op c.in-Some.token c.in-Some.behind.now (c.loop-op.invariant.led e) (omega arith)
     (record { is = c.in-Some.ensures.is; op_is = c.in-Some.ensures.op; level_is = c.in-Some.ensures.level }))
 
 pub binary::chained-returns-in-Err-item-clause-exact : goal.binary::chained-returns-in-Err-item-clause-exact
 binary::chained-returns-in-Err-item-clause-exact t c = λ e.
-    because (one (g.chain c.args.of c.args.mode)) (continues c.args.of c.args.mode) c.args.depth c.args.tokens.now c.in-Err-item.error c.discard-in-Err-item.result c.discard-in-Err-item.ensures
+    because (one (g.chain c.args.of c.args.mode)) (continues c.args.of c.args.mode) c.args.depth c.args.tokens.now c.in-Err-item.error c.discard_expr-in-Err-item.result c.discard_expr-in-Err-item.ensures
     (operator_refused c.args.of c.args.mode (Operators c.args.of c.args.mode) (Operators c.args.of c.args.mode) (operators_chained c.args.of c.args.mode e) (many_clear c.args.of c.args.mode e)
     c.later.result c.args.depth (c.args.depth - 1) c.args.tokens.now (expr c.loop-op.e) c.loop-op.height c.loop-op.rest.now c.in-Some.op c.in-Some.token c.in-Some.behind.now c.in-Err-item.error
     c.later.ensures (omega arith) (c.loop-op.invariant.led e) (omega arith)
@@ -165,7 +159,7 @@ binary::comparison-returns-in-None-clause-exact t c =
 
 pub binary::comparison-returns-then-height-from-clause-exact : goal.binary::comparison-returns-then-height-from-clause-exact
 binary::comparison-returns-then-height-from-clause-exact t c =
-    because (one (g.chain Comparison c.args.mode)) (continues Comparison c.args.mode) c.args.depth c.args.tokens.now (stop.Deep (length c.in-Some.found.2.now)) c.discard.result c.discard.ensures
+    because (one (g.chain Comparison c.args.mode)) (continues Comparison c.args.mode) c.args.depth c.args.tokens.now (stop.Deep (length c.in-Some.found.2.now)) c.discard_expr.result c.discard_expr.ensures
     (operator_deep Comparison c.args.mode (Comparisons c.args.mode) Never (once_chained c.args.mode) (never_clear c.args.mode) c.args.depth c.args.tokens.now (expr c.in-Ok.read.0) c.in-Ok.read.1 c.in-Ok.read.2.now
     c.in-Some.found.0 c.in-Some.found.1 c.in-Some.found.2.now
     (comparison_first c.args.mode c.args.depth c.args.tokens.now (expr c.in-Ok.read.0) c.in-Ok.read.1 c.in-Ok.read.2.now c.in-Ok.ensures.exact) (omega arith)
@@ -183,7 +177,7 @@ binary::comparison-returns-in_ok-whole-in-Ok-item-clause-exact t c =
 
 pub binary::comparison-returns-in-Err-item-clause-exact : goal.binary::comparison-returns-in-Err-item-clause-exact
 binary::comparison-returns-in-Err-item-clause-exact t c =
-    because (one (g.chain Comparison c.args.mode)) (continues Comparison c.args.mode) c.args.depth c.args.tokens.now c.in-Err-item.error c.discard-in-Err-item.result c.discard-in-Err-item.ensures
+    because (one (g.chain Comparison c.args.mode)) (continues Comparison c.args.mode) c.args.depth c.args.tokens.now c.in-Err-item.error c.discard_expr-in-Err-item.result c.discard_expr-in-Err-item.ensures
     (operator_refused Comparison c.args.mode (Comparisons c.args.mode) Never (once_chained c.args.mode) (never_clear c.args.mode)
     c.later.result c.args.depth (c.args.depth - 1) c.args.tokens.now (expr c.in-Ok.read.0) c.in-Ok.read.1 c.in-Ok.read.2.now
     c.in-Some.found.0 c.in-Some.found.1 c.in-Some.found.2.now c.in-Err-item.error c.later.ensures (omega arith)
@@ -279,13 +273,13 @@ postfix::postfix-loop-form-init t c = record {
 
 pub postfix::postfix-returns-then-height-from-clause-exact : goal.postfix::postfix-returns-then-height-from-clause-exact
 postfix::postfix-returns-then-height-from-clause-exact t c =
-    because (one (g.postfix c.args.mode)) (starts_suffix c.args.mode) c.args.depth c.args.tokens.now c.over.result c.discard.result c.discard.ensures
+    because (one (g.postfix c.args.mode)) (starts_suffix c.args.mode) c.args.depth c.args.tokens.now c.over.result c.discard_expr.result c.discard_expr.ensures
     (suffix_over c.args.mode c.args.depth c.args.tokens.now (expr c.loop-form.e) c.loop-form.height c.loop-form.rest.now c.loop-form.end c.in-Some.token c.in-Some.behind.now c.over.result
     c.loop-form.invariant.led (omega arith) c.in-Some.ensures.is c.in-Some.ensures.starts c.over.ensures)
 
 pub postfix::postfix-returns-in-Err-read_suffix-clause-exact : goal.postfix::postfix-returns-in-Err-read_suffix-clause-exact
 postfix::postfix-returns-in-Err-read_suffix-clause-exact t c =
-    because (one (g.postfix c.args.mode)) (starts_suffix c.args.mode) c.args.depth c.args.tokens.now c.in-Err-read_suffix.error c.discard-in-Err-read_suffix.result c.discard-in-Err-read_suffix.ensures
+    because (one (g.postfix c.args.mode)) (starts_suffix c.args.mode) c.args.depth c.args.tokens.now c.in-Err-read_suffix.error c.discard_expr-in-Err-read_suffix.result c.discard_expr-in-Err-read_suffix.ensures
     (suffix_refused_to c.args.mode c.args.depth (c.args.depth - 1) c.args.tokens.now (expr c.loop-form.e) c.loop-form.height c.loop-form.rest.now c.loop-form.end c.in-Some.token c.in-Some.behind.now c.in-Err-read_suffix.error
     (omega arith) c.loop-form.invariant.led (omega arith) c.in-Some.ensures.is c.in-Some.ensures.starts
     (from_token (one (g.suffix c.args.mode)) (c.args.depth - 1) c.loop-form.rest.now c.in-Some.token c.in-Some.behind.now _ c.in-Some.ensures.is (c.in-Err-read_suffix.ensures.exact c.in-Some.ensures.form c.in-Some.ensures.starts)))
@@ -360,7 +354,7 @@ postfix::high-returns-in-Ok-expect-clause-exact t c =
 
 pub postfix::high-returns-in-Err-expect-clause-exact : goal.postfix::high-returns-in-Err-expect-clause-exact
 postfix::high-returns-in-Err-expect-clause-exact t c =
-    because high_line nothing_continues c.args.depth c.args.tokens.now c.in-Err-expect.error c.discard.result c.discard.ensures
+    because high_line nothing_continues c.args.depth c.args.tokens.now c.in-Err-expect.error c.discard_expr.result c.discard_expr.ensures
     (high_unclosed c.args.depth c.args.tokens.now (expr c.in-Ok.read.0) c.in-Ok.read.1 c.in-Ok.read.2.now c.in-Err-expect.error _ c.in_default.ensures.none c.in-Ok.ensures.exact (λ over. over_by _ _ _ c.within.ensures.1 over) c.in-Err-expect.ensures.refused)
 
 pub postfix::bracket-returns-then-n-from-clause-exact : goal.postfix::bracket-returns-then-n-from-clause-exact
@@ -370,13 +364,13 @@ postfix::bracket-returns-then-n-from-clause-exact t c = λ e.
 
 pub postfix::bracket-returns-in-Some-strip-clause-exact : goal.postfix::bracket-returns-in-Some-strip-clause-exact
 postfix::bracket-returns-in-Some-strip-clause-exact t c = λ e.
-    because (one (g.suffix c.args.mode)) nothing_continues c.args.depth _ _ c.discard.result c.discard.ensures
+    because (one (g.suffix c.args.mode)) nothing_continues c.args.depth _ _ c.discard_expr.result c.discard_expr.ensures
     (index_deep c.args.mode c.args.depth c.args.bracket c.in-Some-strip._close c.args.behind.now (expr c.in-Ok-level.read.0) c.in-Ok-level.read.1 c.in-Ok-level.read.2.now c.in-Some-strip.rest.now e c.in_default.ensures.none
     c.in-Ok-level.ensures.exact (omega arith) c.in-Some-strip.ensures.is c.in-Some-strip.ensures.kind)
 
 pub postfix::bracket-returns-in-Err-expect-clause-exact : goal.postfix::bracket-returns-in-Err-expect-clause-exact
 postfix::bracket-returns-in-Err-expect-clause-exact t c = λ e.
-    because (one (g.suffix c.args.mode)) nothing_continues c.args.depth _ c.in-Err-expect.error c.discard-in-Err-expect.result c.discard-in-Err-expect.ensures
+    because (one (g.suffix c.args.mode)) nothing_continues c.args.depth _ c.in-Err-expect.error c.discard_expr-in-Err-expect.result c.discard_expr-in-Err-expect.ensures
     (colon_refused c.args.mode c.args.depth c.args.bracket c.args.behind.now (expr c.in-Ok-level.read.0) c.in-Ok-level.read.1 c.in-Ok-level.read.2.now c.in-Err-expect.error _ e c.in_default.ensures.none c.in-Ok-level.ensures.exact
     c.in_default-strip.ensures.none (λ over. over_by _ _ _ c.within.ensures.1 over) c.in-Err-expect.ensures.refused)
 
@@ -387,7 +381,7 @@ postfix::bracket-returns-in-Ok-high-clause-exact t c = λ e.
 
 pub postfix::bracket-returns-in-Err-high-clause-exact : goal.postfix::bracket-returns-in-Err-high-clause-exact
 postfix::bracket-returns-in-Err-high-clause-exact t c = λ e.
-    because (one (g.suffix c.args.mode)) nothing_continues c.args.depth _ c.in-Err-high.error c.discard-in-Err-high.result c.discard-in-Err-high.ensures
+    because (one (g.suffix c.args.mode)) nothing_continues c.args.depth _ c.in-Err-high.error c.discard_expr-in-Err-high.result c.discard_expr-in-Err-high.ensures
     (cut_refused c.args.mode c.args.depth c.args.bracket c.in-Ok-expect.found.0 c.args.behind.now (expr c.in-Ok-level.read.0) c.in-Ok-level.read.1 c.in-Ok-level.read.2.now c.in-Ok-expect.found.1.now c.in-Err-high.error
     e c.in_default.ensures.none c.in-Ok-level.ensures.exact (c.within.ensures.0 c.in-Ok-expect.ensures.within) c.in-Ok-expect.ensures.is c.in-Ok-expect.ensures.kind c.in-Err-high.ensures.exact)
 
@@ -405,7 +399,7 @@ arguments::arguments-items-init t c = record {
 
 pub arguments::arguments-returns-in-Err-clause-exact : goal.arguments::arguments-returns-in-Err-clause-exact
 arguments::arguments-returns-in-Err-clause-exact t c = λ k.
-    because (arguments c.args.close) nothing_continues c.args.depth c.args.tokens.now c.in-Err.error c.discard_list.result c.discard_list.ensures
+    because (arguments c.args.close) nothing_continues c.args.depth c.args.tokens.now c.in-Err.error c.discard_args.result c.discard_args.ensures
     (argument_refused c.args.close k c.args.depth c.args.tokens.now c.items.args.items c.items.height c.items.rest.now c.in-Err.error (c.items.invariant.led k) c.items.invariant.low c.in-Err.ensures.exact)
 
 pub arguments::arguments-returns-in-Some-end-clause-exact : goal.arguments::arguments-returns-in-Some-end-clause-exact
@@ -430,7 +424,7 @@ arguments::arguments-items-preserved t c = record {
 
 pub arguments::arguments-returns-in-Err-after_item-clause-exact : goal.arguments::arguments-returns-in-Err-after_item-clause-exact
 arguments::arguments-returns-in-Err-after_item-clause-exact t c = λ k.
-    because (arguments c.args.close) nothing_continues c.args.depth c.args.tokens.now c.in-Err-after_item.error c.discard_list-in-Err-after_item.result c.discard_list-in-Err-after_item.ensures
+    because (arguments c.args.close) nothing_continues c.args.depth c.args.tokens.now c.in-Err-after_item.error c.discard_args-in-Err-after_item.result c.discard_args-in-Err-after_item.ensures
     (arguments_refused c.args.close k c.args.depth c.args.tokens.now c.items.args.items (argument c.in-Ok.read.0) c.max-height.result c.in-Ok.read.2.now c.in-Err-after_item.error _
     (item_read c.args.close k c.args.depth c.args.tokens.now c.items.args.items c.items.height c.items.rest.now (argument c.in-Ok.read.0) c.in-Ok.read.1 _ c.in-Ok.read.2.now
     (c.items.invariant.led k) c.items.invariant.low c.in-Ok.ensures.exact (omega (arith, c.max-height.ensures)))
@@ -481,9 +475,9 @@ operand::operand-returns-then-depth-eq0-clause-exact t c =
     operand_deep c.args.mode c.args.depth c.in-Some.found.0 c.args.tokens.now c.in-Some.found.1.now c.operand_form-form.result c.if-depth-eq0.true c.in-Some.ensures.some (sym c.operand_form-form.ensures)
     (λ e. let bad : true ≡ false = sym (c.is_nothing.ensures.1 e) ∙ c.if-is_nothing.false in cc)
 
-pub operand::operand-returns-in-Some-leaf_kind-clause-exact : goal.operand::operand-returns-in-Some-leaf_kind-clause-exact
-operand::operand-returns-in-Some-leaf_kind-clause-exact t c =
-    found_to (answer_is (sym (ap expr c.leaf.ensures)) refl
+pub operand::operand-returns-in_ok-leaf-in-Some-leaf_kind-clause-exact : goal.operand::operand-returns-in_ok-leaf-in-Some-leaf_kind-clause-exact
+operand::operand-returns-in_ok-leaf-in-Some-leaf_kind-clause-exact t c =
+    found_to (answer_is (sym c.in_ok-leaf-in-Some-leaf_kind.ensures) refl
     (leaf_answer c.args.mode c.args.depth (c.args.depth - 1) c.in-Some.found.0 c.args.tokens.now c.in-Some.found.1.now c.operand_form-form.result (kind_of c.in-Some-leaf_kind.kind) (omega arith) c.in-Some.ensures.some
     (sym c.operand_form-form.ensures) (sym c.leaf_kind.ensures ∙ ap leaf_view c.in-Some-leaf_kind.is)))
 
@@ -492,9 +486,9 @@ operand::operand-returns-in-None-leaf_kind-clause-exact t c =
     at_front_to (one (g.operand c.args.mode)) nothing_continues c.args.depth (c.args.depth - 1) c.args.tokens.now c.in-Some.found.0 c.in-Some.found.1.now _ (omega arith) c.in-Some.ensures.some
     (c.compound.ensures.exact c.in-Some.ensures.some (sym c.operand_form-form.ensures) (sym c.leaf_kind.ensures ∙ ap leaf_view c.in-None-leaf_kind.is) (λ e. let bad : true ≡ false = sym (c.is_nothing.ensures.1 e) ∙ c.if-is_nothing.false in cc))
 
-pub operand::compound-returns-in-Ok-clause-exact : goal.operand::compound-returns-in-Ok-clause-exact
-operand::compound-returns-in-Ok-clause-exact t c = λ is k leaf some.
-    found_to (answer_is (sym (ap expr c.leaf.ensures)) refl (dot_answer c.args.mode c.args.depth c.args.token c.in-Ok.name c.args.behind.now c.in-Ok.rest.now c.args.form c.in-Dot.is k c.in-Ok.ensures.is c.in-Ok.ensures.kind))
+pub operand::compound-returns-in_ok-leaf-in-Ok-clause-exact : goal.operand::compound-returns-in_ok-leaf-in-Ok-clause-exact
+operand::compound-returns-in_ok-leaf-in-Ok-clause-exact t c = λ is k leaf some.
+    found_to (answer_is (sym c.in_ok-leaf-in-Ok.ensures) refl (dot_answer c.args.mode c.args.depth c.args.token c.in-Ok.name c.args.behind.now c.in-Ok.rest.now c.args.form c.in-Dot.is k c.in-Ok.ensures.is c.in-Ok.ensures.kind))
 
 pub operand::compound-returns-in-Err-clause-exact : goal.operand::compound-returns-in-Err-clause-exact
 operand::compound-returns-in-Err-clause-exact t c = λ is k leaf some.
@@ -504,10 +498,10 @@ operand::compound-returns-in-Err-clause-exact t c = λ is k leaf some.
 pub operand::compound-returns-in-Group-clause-exact : goal.operand::compound-returns-in-Group-clause-exact
 operand::compound-returns-in-Group-clause-exact t c = λ is k leaf some. c.group.ensures.exact (k ∙ c.in-Group.is)
 
-pub operand::compound-returns-in-Ok-arguments-clause-exact : goal.operand::compound-returns-in-Ok-arguments-clause-exact
-operand::compound-returns-in-Ok-arguments-clause-exact t c = λ is k leaf some.
+pub operand::compound-returns-in_ok-literal-in-Ok-arguments-clause-exact : goal.operand::compound-returns-in_ok-literal-in-Ok-arguments-clause-exact
+operand::compound-returns-in_ok-literal-in-Ok-arguments-clause-exact t c = λ is k leaf some.
     found_to (brace_answer c.args.mode c.args.depth c.args.token c.args.behind.now c.args.form (argument_list c.in-Ok-arguments.list) _ c.in-Ok-arguments.height _ c.in-Ok-arguments.rest.now c.in-Literal.is k
-    (c.in-Ok-arguments.ensures.exact (inr refl)) c.literal.ensures (omega arith))
+    (c.in-Ok-arguments.ensures.exact (inr refl)) c.in_ok-literal-in-Ok-arguments.ensures (omega arith))
 
 pub operand::compound-returns-in-Err-arguments-clause-exact : goal.operand::compound-returns-in-Err-arguments-clause-exact
 operand::compound-returns-in-Err-arguments-clause-exact t c = λ is k leaf some.
@@ -544,7 +538,7 @@ operand::group-returns-in-Ok-expect-clause-exact t c = λ k.
 
 pub operand::group-returns-in-Err-expect-clause-exact : goal.operand::group-returns-in-Err-expect-clause-exact
 operand::group-returns-in-Err-expect-clause-exact t c = λ k.
-    because_to (one (g.operand c.args.mode)) nothing_continues (suc c.args.depth) (c.args.paren ∷ c.args.behind.now) c.in-Err-expect.error c.discard.result c.discard.ensures
+    because_to (one (g.operand c.args.mode)) nothing_continues (suc c.args.depth) (c.args.paren ∷ c.args.behind.now) c.in-Err-expect.error c.discard_expr.result c.discard_expr.ensures
     (refused_to (one (g.operand c.args.mode)) nothing_continues (suc c.args.depth) (c.args.paren ∷ c.args.behind.now) c.in-Err-expect.error
     (group_unclosed c.args.mode c.args.depth c.args.paren c.args.behind.now form.Group (expr c.in-Ok.read.0) c.in-Ok.read.1 c.in-Ok.read.2.now c.in-Err-expect.error _ refl k
     c.in-Ok.ensures.exact (λ over. over_by _ _ _ c.within.ensures.1 over) c.in-Err-expect.ensures.refused))
@@ -742,10 +736,10 @@ fields::struct_type-returns-in-Err-clause-exact t c = λ e. struct_unopened c.ar
 pub fields::struct_type-returns-in-Err-field_list-clause-exact : goal.fields::struct_type-returns-in-Err-field_list-clause-exact
 fields::struct_type-returns-in-Err-field_list-clause-exact t c = λ e. struct_refused c.args.used c.args.depth c.args.token c.in-Ok.found.0 c.args.behind.now c.in-Ok.found.1.now c.in-Err-field_list.error e c.in-Ok.ensures.is c.in-Ok.ensures.kind c.in-Err-field_list.ensures.exact
 
-pub fields::struct_type-returns-in-Ok-field_list-clause-exact : goal.fields::struct_type-returns-in-Ok-field_list-clause-exact
-fields::struct_type-returns-in-Ok-field_list-clause-exact t c = λ e.
+pub fields::struct_type-returns-in_ok-structure-in-Ok-field_list-clause-exact : goal.fields::struct_type-returns-in_ok-structure-in-Ok-field_list-clause-exact
+fields::struct_type-returns-in_ok-structure-in-Ok-field_list-clause-exact t c = λ e.
     struct_answer c.args.used c.args.depth c.args.token c.in-Ok.found.0 c.args.behind.now c.in-Ok.found.1.now (fields c.in-Ok-field_list.list.items, (c.in-Ok-field_list._close, tt)) c.in-Ok-field_list.height c.in-Ok-field_list.rest.now _ _ e c.in-Ok.ensures.is c.in-Ok.ensures.kind
-    c.in-Ok-field_list.ensures.exact c.structure.ensures (omega arith)
+    c.in-Ok-field_list.ensures.exact c.in_ok-structure-in-Ok-field_list.ensures (omega arith)
 
 pub fields::union_type-returns-in-Err-clause-exact : goal.fields::union_type-returns-in-Err-clause-exact
 fields::union_type-returns-in-Err-clause-exact t c = λ e. union_unopened c.args.used c.args.depth c.args.token c.args.behind.now c.in-Err.error e c.in-Err.ensures.refused
@@ -753,10 +747,10 @@ fields::union_type-returns-in-Err-clause-exact t c = λ e. union_unopened c.args
 pub fields::union_type-returns-in-Err-type_list-clause-exact : goal.fields::union_type-returns-in-Err-type_list-clause-exact
 fields::union_type-returns-in-Err-type_list-clause-exact t c = λ e. union_refused c.args.used c.args.depth c.args.token c.in-Ok.found.0 c.args.behind.now c.in-Ok.found.1.now c.in-Err-type_list.error e c.in-Ok.ensures.is c.in-Ok.ensures.kind c.in-Err-type_list.ensures.exact
 
-pub fields::union_type-returns-in-Ok-type_list-clause-exact : goal.fields::union_type-returns-in-Ok-type_list-clause-exact
-fields::union_type-returns-in-Ok-type_list-clause-exact t c = λ e.
+pub fields::union_type-returns-in_ok-union_of-in-Ok-type_list-clause-exact : goal.fields::union_type-returns-in_ok-union_of-in-Ok-type_list-clause-exact
+fields::union_type-returns-in_ok-union_of-in-Ok-type_list-clause-exact t c = λ e.
     union_answer c.args.used c.args.depth c.args.token c.in-Ok.found.0 c.args.behind.now c.in-Ok.found.1.now (types c.in-Ok-type_list.list.items, (c.in-Ok-type_list._close, tt)) c.in-Ok-type_list.height c.in-Ok-type_list.rest.now _ _ e c.in-Ok.ensures.is c.in-Ok.ensures.kind
-    c.in-Ok-type_list.ensures.exact c.union_of.ensures (omega arith)
+    c.in-Ok-type_list.ensures.exact c.in_ok-union_of-in-Ok-type_list.ensures (omega arith)
 
 pub fields::field_list-returns-in-Some-clause-exact : goal.fields::field_list-returns-in-Some-clause-exact
 fields::field_list-returns-in-Some-clause-exact t c = fields_empty (inside c.args.used) c.args.depth c.in-Some.close c.args.tokens.now c.in-Some.rest.now c.new-list.result.items c.new-list.ensures.items c.in-Some.ensures.is c.in-Some.ensures.kind
@@ -892,15 +886,15 @@ fields::enumerator_list-returns-in-Err-after_item-clause-exact t c =
 pub fields::enum_type-returns-in-Err-clause-exact : goal.fields::enum_type-returns-in-Err-clause-exact
 fields::enum_type-returns-in-Err-clause-exact t c = λ e. enum_base_refused c.args.used c.args.depth c.args.token c.args.behind.now c.in-Err.error e c.in-Err.ensures.exact
 
-pub fields::enum_type-returns-in-Ok-enumerator_list-clause-exact : goal.fields::enum_type-returns-in-Ok-enumerator_list-clause-exact
-fields::enum_type-returns-in-Ok-enumerator_list-clause-exact t c = λ e.
-    enum_answer c.args.used c.args.depth c.args.token c.args.behind.now (given_type c.in-Ok.read.0, (c.in-Ok.read.1, tt)) c.in-Ok.read.2 c.in-Ok.read.3.now (enumerators c.in-Ok-enumerator_list.list.items, (c.in-Ok-enumerator_list._close, tt)) c.in-Ok-enumerator_list.m c.in-Ok-enumerator_list.rest.now _ _
-    e c.in-Ok.ensures.exact c.in-Ok.ensures.low c.in-Ok-enumerator_list.ensures.exact c.enumeration.ensures (omega (arith, c.max.ensures))
+pub fields::enum_type-returns-in_ok-enumeration-in-Ok-enumerator_list-clause-exact : goal.fields::enum_type-returns-in_ok-enumeration-in-Ok-enumerator_list-clause-exact
+fields::enum_type-returns-in_ok-enumeration-in-Ok-enumerator_list-clause-exact t c = λ e.
+    enum_answer c.args.used c.args.depth c.args.token c.args.behind.now (maybe_type c.in-Ok.read.0, (c.in-Ok.read.1, tt)) c.in-Ok.read.2 c.in-Ok.read.3.now (enumerators c.in-Ok-enumerator_list.list.items, (c.in-Ok-enumerator_list._close, tt)) c.in-Ok-enumerator_list.m c.in-Ok-enumerator_list.rest.now _ _
+    e c.in-Ok.ensures.exact c.in-Ok.ensures.low c.in-Ok-enumerator_list.ensures.exact c.in_ok-enumeration-in-Ok-enumerator_list.ensures (omega (arith, c.max.ensures))
 
 pub fields::enum_type-returns-in-Err-enumerator_list-clause-exact : goal.fields::enum_type-returns-in-Err-enumerator_list-clause-exact
 fields::enum_type-returns-in-Err-enumerator_list-clause-exact t c = λ e.
-    because_as c.args.used (one (g.constructed c.args.used)) (suc c.args.depth) _ c.in-Err-enumerator_list.error c.discard_base.result c.discard_base.ensures
-    (enum_refused c.args.used c.args.depth c.args.token c.args.behind.now (given_type c.in-Ok.read.0, (c.in-Ok.read.1, tt)) c.in-Ok.read.2 c.in-Ok.read.3.now c.in-Err-enumerator_list.error e c.in-Ok.ensures.exact c.in-Ok.ensures.low c.in-Err-enumerator_list.ensures.exact)
+    because_as c.args.used (one (g.constructed c.args.used)) (suc c.args.depth) _ c.in-Err-enumerator_list.error c.discard_optional_type.result c.discard_optional_type.ensures
+    (enum_refused c.args.used c.args.depth c.args.token c.args.behind.now (maybe_type c.in-Ok.read.0, (c.in-Ok.read.1, tt)) c.in-Ok.read.2 c.in-Ok.read.3.now c.in-Err-enumerator_list.error e c.in-Ok.ensures.exact c.in-Ok.ensures.low c.in-Err-enumerator_list.ensures.exact)
 
 pub fields::base_type-returns-in-Some-clause-exact : goal.fields::base_type-returns-in-Some-clause-exact
 fields::base_type-returns-in-Some-clause-exact t c = base_none (inside c.args.used) c.args.depth c.in-Some.open c.args.tokens.now c.in-Some.inner.now c.in-Some.ensures.is c.in-Some.ensures.kind
@@ -916,9 +910,9 @@ fields::base-returns-in-Err-expect-clause-exact t c = λ none.
     because (base_line (inside c.args.used)) nothing_continues c.args.depth c.args.tokens.now c.in-Err-expect.error c.discard_type.result c.discard_type.ensures
     (base_unopened (inside c.args.used) c.args.depth c.args.tokens.now (type c.in-Ok.read.0) c.in-Ok.read.1 c.in-Ok.read.2.now c.in-Err-expect.error _ none c.in-Ok.ensures.exact (λ over. over_by _ _ _ c.within.ensures.1 over) c.in-Err-expect.ensures.refused)
 
-pub fields::base-returns-in_ok-boxed_type-in-Ok-expect-clause-exact : goal.fields::base-returns-in_ok-boxed_type-in-Ok-expect-clause-exact
-fields::base-returns-in_ok-boxed_type-in-Ok-expect-clause-exact t c = λ none.
-    base_answer (inside c.args.used) c.args.depth c.args.tokens.now (type c.in-Ok.read.0) c.in-Ok.read.1 c.in-Ok.read.2.now c.in-Ok-expect.open c.in-Ok-expect.inner.now _ none c.in-Ok.ensures.exact (c.within.ensures.0 c.in-Ok-expect.ensures.within) c.in-Ok-expect.ensures.is c.in-Ok-expect.ensures.kind c.in_ok-boxed_type-in-Ok-expect.ensures
+pub fields::base-returns-in-Ok-expect-clause-exact : goal.fields::base-returns-in-Ok-expect-clause-exact
+fields::base-returns-in-Ok-expect-clause-exact t c = λ none.
+    base_answer (inside c.args.used) c.args.depth c.args.tokens.now (type c.in-Ok.read.0) c.in-Ok.read.1 c.in-Ok.read.2.now c.in-Ok-expect.open c.in-Ok-expect.inner.now _ none c.in-Ok.ensures.exact (c.within.ensures.0 c.in-Ok-expect.ensures.within) c.in-Ok-expect.ensures.is c.in-Ok-expect.ensures.kind refl
 
 pub fields::enumerator-returns-in-Err-clause-exact : goal.fields::enumerator-returns-in-Err-clause-exact
 fields::enumerator-returns-in-Err-clause-exact t c = enumerator_unnamed c.args.depth c.args.tokens.now c.in-Err.error c.in-Err.ensures.refused
@@ -926,9 +920,9 @@ fields::enumerator-returns-in-Err-clause-exact t c = enumerator_unnamed c.args.d
 pub fields::enumerator-returns-in-Err-given-clause-exact : goal.fields::enumerator-returns-in-Err-given-clause-exact
 fields::enumerator-returns-in-Err-given-clause-exact t c = enumerator_refused c.args.depth c.in-Ok.found.0 c.args.tokens.now c.in-Ok.found.1.now c.in-Err-given.error c.in-Ok.ensures.is c.in-Ok.ensures.kind c.in-Err-given.ensures.exact
 
-pub fields::given-returns-in_ok-boxed-in-Ok-clause-exact : goal.fields::given-returns-in_ok-boxed-in-Ok-clause-exact
-fields::given-returns-in_ok-boxed-in-Ok-clause-exact t c =
-    given_answer c.args.depth c.in-Some._assign c.args.tokens.now c.in-Some.behind.now (expr c.in-Ok.e) c.in-Ok.height c.in-Ok.rest.now _ c.in-Some.ensures.is c.in-Some.ensures.kind c.in-Ok.ensures.exact c.in_ok-boxed-in-Ok.ensures
+pub fields::given-returns-in-Ok-clause-exact : goal.fields::given-returns-in-Ok-clause-exact
+fields::given-returns-in-Ok-clause-exact t c =
+    given_answer c.args.depth c.in-Some._assign c.args.tokens.now c.in-Some.behind.now (expr c.in-Ok.e) c.in-Ok.height c.in-Ok.rest.now _ c.in-Some.ensures.is c.in-Some.ensures.kind c.in-Ok.ensures.exact refl
 
 pub fields::given-returns-in-Err-clause-exact : goal.fields::given-returns-in-Err-clause-exact
 fields::given-returns-in-Err-clause-exact t c = given_refused c.args.depth c.in-Some._assign c.args.tokens.now c.in-Some.behind.now c.in-Err.error c.in-Some.ensures.is c.in-Some.ensures.kind c.in-Err.ensures.exact
@@ -947,16 +941,16 @@ signatures::results-returns-in-Some-strip-2-clause-exact t c =
 pub signatures::results-returns-in-Ok-clause-exact : goal.signatures::results-returns-in-Ok-clause-exact
 signatures::results-returns-in-Ok-clause-exact t c =
     results_answer c.args.used c.args.depth c.in-Some.found.0 c.in-Some-strip._open c.args.tokens.now c.in-Some.found.1.now c.in-Some-strip.inner.now (params c.in-Ok.list.items, (c.in-Ok._close, tt)) c.in-Ok.height c.in-Ok.rest.now _
-    c.in-Some.ensures.is c.in-Some.ensures.kind c.in-Some-strip.ensures.is c.in-Some-strip.ensures.kind c.in-None-strip-2.ensures.none c.in-Ok.ensures.exact c.listed.ensures
+    c.in-Some.ensures.is c.in-Some.ensures.kind c.in-Some-strip.ensures.is c.in-Some-strip.ensures.kind c.in-None-strip-2.ensures.none c.in-Ok.ensures.exact refl
 
 pub signatures::results-returns-in-Err-clause-exact : goal.signatures::results-returns-in-Err-clause-exact
 signatures::results-returns-in-Err-clause-exact t c =
     results_refused c.args.used c.args.depth c.in-Some.found.0 c.in-Some-strip._open c.args.tokens.now c.in-Some.found.1.now c.in-Some-strip.inner.now c.in-Err.error c.in-Some.ensures.is c.in-Some.ensures.kind c.in-Some-strip.ensures.is c.in-Some-strip.ensures.kind c.in-None-strip-2.ensures.none c.in-Err.ensures.exact
 
-pub signatures::results-returns-in_ok-one-in-Ok-type_to-clause-exact : goal.signatures::results-returns-in_ok-one-in-Ok-type_to-clause-exact
-signatures::results-returns-in_ok-one-in-Ok-type_to-clause-exact t c =
+pub signatures::results-returns-in-Ok-type_to-clause-exact : goal.signatures::results-returns-in-Ok-type_to-clause-exact
+signatures::results-returns-in-Ok-type_to-clause-exact t c =
     result_answer c.args.used c.at_end.result c.args.depth c.in-Some.found.0 c.args.tokens.now c.in-Some.found.1.now (type c.in-Ok-type_to.t) c.in-Ok-type_to.height c.in-Ok-type_to.rest.now c.in-Ok-type_to.end _
-    c.at_end.ensures c.in-Some.ensures.is c.in-Some.ensures.kind c.in-None-strip.ensures.none c.in-Ok-type_to.ensures.exact c.in_ok-one-in-Ok-type_to.ensures
+    c.at_end.ensures c.in-Some.ensures.is c.in-Some.ensures.kind c.in-None-strip.ensures.none c.in-Ok-type_to.ensures.exact refl
 
 pub signatures::results-returns-in-Err-type_to-clause-exact : goal.signatures::results-returns-in-Err-type_to-clause-exact
 signatures::results-returns-in-Err-type_to-clause-exact t c =
@@ -1002,10 +996,9 @@ arrays::counted-returns-in_ok-bracketed-clause-exact t c = λ ts z.
     counted_answer c.args.used c.args.shape c.args.at c.args.depth ts c.args.tokens.now c.in-Ok.found.0 c.in-Ok.found.1.now (type c.in-Ok-ty.read.0) c.in-Ok-ty.read.1 c.in-Ok-ty.read.2.now _ _ z c.in-Ok.ensures.is c.in-Ok.ensures.kind c.in-Ok-ty.ensures.exact c.in-Ok-ty.ensures.low
     (sym c.counts.ensures ∙ c.if-counts.true) c.in_ok-bracketed.ensures (omega arith)
 
-pub arrays::fixed-returns-in_ok-fixed-in-Ok-expect-clause-exact : goal.arrays::fixed-returns-in_ok-fixed-in-Ok-expect-clause-exact
-arrays::fixed-returns-in_ok-fixed-in-Ok-expect-clause-exact t c = λ f d o.
-    answer_is (ap (λ (n : tree.Length). (n, (c.in-Ok-expect.close, tt))) (sym c.in_ok-fixed-in-Ok-expect.ensures)) refl
-    (fixed_answer c.args.used c.args.depth c.in-Ok-expect.close c.args.tokens.now (expr c.in-Ok.read.0) c.in-Ok.read.1 c.in-Ok.read.2.now c.in-Ok-expect.rest.now f d o c.in-Ok.ensures.exact (c.within.ensures.0 c.in-Ok-expect.ensures.within) c.in-Ok-expect.ensures.is c.in-Ok-expect.ensures.kind)
+pub arrays::fixed-returns-in-Ok-expect-clause-exact : goal.arrays::fixed-returns-in-Ok-expect-clause-exact
+arrays::fixed-returns-in-Ok-expect-clause-exact t c = λ f d o.
+    fixed_answer c.args.used c.args.depth c.in-Ok-expect.close c.args.tokens.now (expr c.in-Ok.read.0) c.in-Ok.read.1 c.in-Ok.read.2.now c.in-Ok-expect.rest.now f d o c.in-Ok.ensures.exact (c.within.ensures.0 c.in-Ok-expect.ensures.within) c.in-Ok-expect.ensures.is c.in-Ok-expect.ensures.kind
 
 pub arrays::fixed-returns-in-Err-expect-clause-exact : goal.arrays::fixed-returns-in-Err-expect-clause-exact
 arrays::fixed-returns-in-Err-expect-clause-exact t c = λ f d o.
@@ -1014,31 +1007,30 @@ arrays::fixed-returns-in-Err-expect-clause-exact t c = λ f d o.
 
 pub fields::enumerator-returns-in-Ok-given-clause-exact : goal.fields::enumerator-returns-in-Ok-given-clause-exact
 fields::enumerator-returns-in-Ok-given-clause-exact t c =
-    answer_is (sym c.enumerator.ensures) refl
-    (enumerator_answer c.args.depth c.in-Ok.found.0 c.args.tokens.now c.in-Ok.found.1.now (given_expr c.in-Ok-given.value) c.in-Ok-given.height c.in-Ok-given.rest.now c.in-Ok.ensures.is c.in-Ok.ensures.kind c.in-Ok-given.ensures.exact)
+    enumerator_answer c.args.depth c.in-Ok.found.0 c.args.tokens.now c.in-Ok.found.1.now (maybe_expr c.in-Ok-given.value) c.in-Ok-given.height c.in-Ok-given.rest.now c.in-Ok.ensures.is c.in-Ok.ensures.kind c.in-Ok-given.ensures.exact
 
 -- parameters
-pub params::params-returns-in-None-clause-exact : goal.params::params-returns-in-None-clause-exact
-params::params-returns-in-None-clause-exact t c =
-    let n = c.in-None.ensures.none in
+pub params::params-returns-in-Ok-clause-exact : goal.params::params-returns-in-Ok-clause-exact
+params::params-returns-in-Ok-clause-exact t c =
+    let n = c.in-Ok.ensures.declares in
     let f = front_at c.args.used c.inside.result c.args.tokens.now c.behind_dollar.result.now c.inside.ensures c.behind_dollar.ensures.front in
-    params_named (inside c.args.used) (takes_dot c.args.used) c.args.depth f n.leads _ (c.named_list.ensures.exact (not_empty f n.leads))
+    params_named (inside c.args.used) (takes_dot c.args.used) c.args.depth f n _ (c.named_list.ensures.exact (not_empty f n))
 
 pub params::params-returns-then-at-tokens-clause-exact : goal.params::params-returns-then-at-tokens-clause-exact
 params::params-returns-then-at-tokens-clause-exact t c =
     let f = front_at c.args.used c.inside.result c.args.tokens.now c.behind_dollar.result.now c.inside.ensures c.behind_dollar.ensures.front in
-    params_unnamed (inside c.args.used) c.args.depth f c.in-Some.ensures.some (omega arith) _ c.bare_list.ensures.exact
+    params_unnamed (inside c.args.used) c.args.depth f c.in-Err.ensures.undeclared (omega arith) _ c.bare_list.ensures.exact
 
 pub params::params-returns-then-depth-eq0-clause-exact : goal.params::params-returns-then-depth-eq0-clause-exact
 params::params-returns-then-depth-eq0-clause-exact t c =
     let f = front_at c.args.used c.inside.result c.args.tokens.now c.behind_dollar.result.now c.inside.ensures c.behind_dollar.ensures.front in
     at_none (params_line (inside c.args.used)) nothing_continues c.args.depth c.args.tokens.now _ c.if-depth-eq0.true
-    (c.crossed.ensures.exact c.behind_dollar.result.now f c.in-Some.ensures.some (let a = blocked_short c.in-Some.ensures.some in let s = front_short f in omega (arith, a, s)))
+    (c.crossed.ensures.exact c.behind_dollar.result.now f c.in-Err.ensures.undeclared (let a = blocked_short c.in-Err.ensures.undeclared in let s = front_short f in omega (arith, a, s)))
 
 pub params::params-returns-else-depth-eq0-clause-exact : goal.params::params-returns-else-depth-eq0-clause-exact
 params::params-returns-else-depth-eq0-clause-exact t c =
     let f = front_at c.args.used c.inside.result c.args.tokens.now c.behind_dollar.result.now c.inside.ensures c.behind_dollar.ensures.front in
-    params_bare (inside c.args.used) (takes_dot c.args.used) c.args.depth (omega arith) f c.in-Some.ensures.some _ c.bare_list-in-Some.ensures.exact
+    params_bare (inside c.args.used) (takes_dot c.args.used) c.args.depth (omega arith) f c.in-Err.ensures.undeclared _ c.bare_list-in-Err.ensures.exact
 
 pub params::crossed-returns-in-Ok-clause-exact : goal.params::crossed-returns-in-Ok-clause-exact
 params::crossed-returns-in-Ok-clause-exact t c = λ us f b less.
@@ -1127,9 +1119,9 @@ params::bare_list-returns-in-Err-after_item-clause-exact t c =
     (item_as (bare_list (inside c.args.used)) (bare_line (inside c.args.used)) c.args.depth c.args.tokens.now c.items.list.items c.items.height c.items.rest.now _ c.in-Ok.read.1 _ c.in-Ok.read.2.now c.items.invariant.led c.items.invariant.low c.in-Ok.ensures.exact (omega (arith, c.max-height.ensures)))
     c.in-Err-after_item.ensures.refused (λ over. over_by _ _ _ c.within.ensures.1 over))
 
-pub params::bare-returns-in_ok-bare_param-in-Ok-clause-exact : goal.params::bare-returns-in_ok-bare_param-in-Ok-clause-exact
-params::bare-returns-in_ok-bare_param-in-Ok-clause-exact t c =
-    of_params.bare_answer (inside c.args.used) c.args.depth c.args.tokens.now (type c.in-Ok.t) c.in-Ok.height c.in-Ok.rest.now _ c.in-Ok.ensures.exact c.in_ok-bare_param-in-Ok.ensures
+pub params::bare-returns-in-Ok-clause-exact : goal.params::bare-returns-in-Ok-clause-exact
+params::bare-returns-in-Ok-clause-exact t c =
+    of_params.bare_answer (inside c.args.used) c.args.depth c.args.tokens.now (type c.in-Ok.t) c.in-Ok.height c.in-Ok.rest.now _ c.in-Ok.ensures.exact c.bare_param.ensures
 
 pub params::bare-returns-in-Err-clause-exact : goal.params::bare-returns-in-Err-clause-exact
 params::bare-returns-in-Err-clause-exact t c = of_params.bare_refused (inside c.args.used) c.args.depth c.args.tokens.now c.in-Err.error c.in-Err.ensures.exact
@@ -1146,7 +1138,7 @@ params::plain-returns-in-Err-clause-exact t c = λ none. of_params.param_unnamed
 
 pub params::plain-returns-in-Ok-given-clause-exact : goal.params::plain-returns-in-Ok-given-clause-exact
 params::plain-returns-in-Ok-given-clause-exact t c = λ none.
-    of_params.typeid_answer (inside c.args.used) c.args.depth c.args.tokens.now c.in-Ok.read.0.items c.in-Ok.read.2.now c.in-Some._typeid c.in-Some.behind.now (given_expr c.in-Ok-given.default) c.in-Ok-given.height c.in-Ok-given.rest.now _
+    of_params.typeid_answer (inside c.args.used) c.args.depth c.args.tokens.now c.in-Ok.read.0.items c.in-Ok.read.2.now c.in-Some._typeid c.in-Some.behind.now (maybe_expr c.in-Ok-given.default) c.in-Ok-given.height c.in-Ok-given.rest.now _
     (of_params.param_named (inside c.args.used) c.args.depth c.args.tokens.now c.in-Ok.read.0.items c.in-Ok.read.1 c.in-Ok.read.2.now none (c.in-Ok.ensures.exact c.args.depth)) c.in-Some.ensures.is c.in-Some.ensures.kind c.in-Ok-given.ensures.exact c.typeid_param.ensures
 
 pub params::plain-returns-in-Err-given-clause-exact : goal.params::plain-returns-in-Err-given-clause-exact
@@ -1154,20 +1146,20 @@ params::plain-returns-in-Err-given-clause-exact t c = λ none.
     of_params.typeid_refused (inside c.args.used) c.args.depth c.args.tokens.now c.in-Ok.read.0.items c.in-Ok.read.2.now c.in-Some._typeid c.in-Some.behind.now c.in-Err-given.error
     (of_params.param_named (inside c.args.used) c.args.depth c.args.tokens.now c.in-Ok.read.0.items c.in-Ok.read.1 c.in-Ok.read.2.now none (c.in-Ok.ensures.exact c.args.depth)) c.in-Some.ensures.is c.in-Some.ensures.kind c.in-Err-given.ensures.exact
 
-pub params::plain-returns-in_ok-inferred_param-in-Ok-level-clause-exact : goal.params::plain-returns-in_ok-inferred_param-in-Ok-level-clause-exact
-params::plain-returns-in_ok-inferred_param-in-Ok-level-clause-exact t c = λ none.
+pub params::plain-returns-in-Ok-level-clause-exact : goal.params::plain-returns-in-Ok-level-clause-exact
+params::plain-returns-in-Ok-level-clause-exact t c = λ none.
     of_params.inferred_answer (inside c.args.used) c.args.depth c.args.tokens.now c.in-Ok.read.0.items c.in-Ok.read.2.now c.in-Some-strip._assign c.in-Some-strip.behind.now (expr c.in-Ok-level.e) c.in-Ok-level.height c.in-Ok-level.rest.now _
-    (of_params.param_named (inside c.args.used) c.args.depth c.args.tokens.now c.in-Ok.read.0.items c.in-Ok.read.1 c.in-Ok.read.2.now none (c.in-Ok.ensures.exact c.args.depth)) c.in-Some-strip.ensures.is c.in-Some-strip.ensures.kind c.in-Ok-level.ensures.exact c.in_ok-inferred_param-in-Ok-level.ensures
+    (of_params.param_named (inside c.args.used) c.args.depth c.args.tokens.now c.in-Ok.read.0.items c.in-Ok.read.1 c.in-Ok.read.2.now none (c.in-Ok.ensures.exact c.args.depth)) c.in-Some-strip.ensures.is c.in-Some-strip.ensures.kind c.in-Ok-level.ensures.exact c.inferred_param.ensures
 
 pub params::plain-returns-in-Err-level-clause-exact : goal.params::plain-returns-in-Err-level-clause-exact
 params::plain-returns-in-Err-level-clause-exact t c = λ none.
     of_params.inferred_refused (inside c.args.used) c.args.depth c.args.tokens.now c.in-Ok.read.0.items c.in-Ok.read.2.now c.in-Some-strip._assign c.in-Some-strip.behind.now c.in-Err-level.error
     (of_params.param_named (inside c.args.used) c.args.depth c.args.tokens.now c.in-Ok.read.0.items c.in-Ok.read.1 c.in-Ok.read.2.now none (c.in-Ok.ensures.exact c.args.depth)) c.in-Some-strip.ensures.is c.in-Some-strip.ensures.kind c.in-Err-level.ensures.exact
 
-pub params::plain-returns-in_ok-typed_param-in-Ok-typed-clause-exact : goal.params::plain-returns-in_ok-typed_param-in-Ok-typed-clause-exact
-params::plain-returns-in_ok-typed_param-in-Ok-typed-clause-exact t c = λ none.
-    of_params.typed_answer (inside c.args.used) c.args.depth c.args.tokens.now c.in-Ok.read.0.items c.in-Ok.read.2.now (type c.in-Ok-typed.t, given_expr c.in-Ok-typed.default) c.in-Ok-typed.height c.in-Ok-typed.rest.now _
-    (of_params.param_named (inside c.args.used) c.args.depth c.args.tokens.now c.in-Ok.read.0.items c.in-Ok.read.1 c.in-Ok.read.2.now none (c.in-Ok.ensures.exact c.args.depth)) c.in-None.ensures.none c.in-None-strip.ensures.none c.in-Ok-typed.ensures.exact c.in_ok-typed_param-in-Ok-typed.ensures
+pub params::plain-returns-in-Ok-typed-clause-exact : goal.params::plain-returns-in-Ok-typed-clause-exact
+params::plain-returns-in-Ok-typed-clause-exact t c = λ none.
+    of_params.typed_answer (inside c.args.used) c.args.depth c.args.tokens.now c.in-Ok.read.0.items c.in-Ok.read.2.now (type c.in-Ok-typed.t, maybe_expr c.in-Ok-typed.default) c.in-Ok-typed.height c.in-Ok-typed.rest.now _
+    (of_params.param_named (inside c.args.used) c.args.depth c.args.tokens.now c.in-Ok.read.0.items c.in-Ok.read.1 c.in-Ok.read.2.now none (c.in-Ok.ensures.exact c.args.depth)) c.in-None.ensures.none c.in-None-strip.ensures.none c.in-Ok-typed.ensures.exact c.typed_param.ensures
 
 pub params::plain-returns-in-Err-typed-clause-exact : goal.params::plain-returns-in-Err-typed-clause-exact
 params::plain-returns-in-Err-typed-clause-exact t c = λ none.
@@ -1179,7 +1171,7 @@ params::typed-returns-in-Err-clause-exact t c = of_params.type_refused (inside c
 
 pub params::typed-returns-in-Ok-given-clause-exact : goal.params::typed-returns-in-Ok-given-clause-exact
 params::typed-returns-in-Ok-given-clause-exact t c =
-    of_params.default_answer (inside c.args.used) c.args.depth c.args.tokens.now (type c.in-Ok.read.0) c.in-Ok.read.1 c.in-Ok.read.2.now (given_expr c.in-Ok-given.default) c.in-Ok-given.m c.in-Ok-given.rest.now _ c.in-Ok.ensures.exact c.in-Ok.ensures.low c.in-Ok-given.ensures.exact c.max.ensures
+    of_params.default_answer (inside c.args.used) c.args.depth c.args.tokens.now (type c.in-Ok.read.0) c.in-Ok.read.1 c.in-Ok.read.2.now (maybe_expr c.in-Ok-given.default) c.in-Ok-given.m c.in-Ok-given.rest.now _ c.in-Ok.ensures.exact c.in-Ok.ensures.low c.in-Ok-given.ensures.exact c.max.ensures
 
 pub params::typed-returns-in-Err-given-clause-exact : goal.params::typed-returns-in-Err-given-clause-exact
 params::typed-returns-in-Err-given-clause-exact t c =
@@ -1191,7 +1183,7 @@ params::parametric-returns-in-Err-clause-exact t c = λ e. dollar_unnamed c.args
 
 pub params::parametric-returns-in-Ok-given-clause-exact : goal.params::parametric-returns-in-Ok-given-clause-exact
 params::parametric-returns-in-Ok-given-clause-exact t c = λ e.
-    dollar_typeid_answer c.args.depth c.args.dollar c.in-Some._typeid c.args.behind.now c.in-Ok.read.0.items c.in-Ok.read.1 c.in-Ok.read.2.now c.in-Some.rest.now (given_expr c.in-Ok-given.default) c.in-Ok-given.height c.in-Ok-given.last.now _
+    dollar_typeid_answer c.args.depth c.args.dollar c.in-Some._typeid c.args.behind.now c.in-Ok.read.0.items c.in-Ok.read.1 c.in-Ok.read.2.now c.in-Some.rest.now (maybe_expr c.in-Ok-given.default) c.in-Ok-given.height c.in-Ok-given.last.now _
     e c.in-Ok.ensures.exact c.in-Some.ensures.is c.in-Some.ensures.kind c.in-Ok-given.ensures.exact c.typeid_param.ensures
 
 pub params::parametric-returns-in-Err-given-clause-exact : goal.params::parametric-returns-in-Err-given-clause-exact
@@ -1206,7 +1198,7 @@ params::parametric-returns-then-depth-eq0-clause-exact t c = λ e.
 
 pub params::parametric-returns-in_ok-int_param-in-Ok-given-2-clause-exact : goal.params::parametric-returns-in_ok-int_param-in-Ok-given-2-clause-exact
 params::parametric-returns-in_ok-int_param-in-Ok-given-2-clause-exact t c = λ e.
-    dollar_int_answer c.args.depth c.args.dollar c.in-Some-strip_int.int c.args.behind.now c.in-Ok.read.0.items c.in-Ok.read.1 c.in-Ok.read.2.now c.in-Some-strip_int.rest.now (given_expr c.in-Ok-given-2.default) c.in-Ok-given-2.height c.in-Ok-given-2.last.now _ _
+    dollar_int_answer c.args.depth c.args.dollar c.in-Some-strip_int.int c.args.behind.now c.in-Ok.read.0.items c.in-Ok.read.1 c.in-Ok.read.2.now c.in-Some-strip_int.rest.now (maybe_expr c.in-Ok-given-2.default) c.in-Ok-given-2.height c.in-Ok-given-2.last.now _ _
     e c.in-Ok.ensures.exact c.in-Some-strip_int.ensures.is c.in-Some-strip_int.ensures.kind c.in-Some-strip_int.ensures.word (omega arith) c.in-Ok-given-2.ensures.exact c.in_ok-int_param-in-Ok-given-2.ensures (omega (arith, c.max.ensures))
 
 pub params::parametric-returns-in-Err-given-2-clause-exact : goal.params::parametric-returns-in-Err-given-2-clause-exact
@@ -1315,14 +1307,15 @@ pub declaration::declaration-returns-then-depth-eq0-clause-exact : goal.declarat
 declaration::declaration-returns-then-depth-eq0-clause-exact t c = declaration_deep c.args.mode c.args.depth c.args.tokens.now c.in-Some.found.0 c.in-Some.found.1.now c.if-depth-eq0.true c.in-Some.ensures.is c.in-Some.ensures.kind
 
 pub simple::simple_from-returns-then-height-most-clause-exact : goal.simple::simple_from-returns-then-height-most-clause-exact
-simple::simple_from-returns-then-height-most-clause-exact t c = λ ts read. because (one (g.simple c.args.mode)) (continues_simple c.args.mode) (suc c.args.depth) ts stop.Memory _ c.discard.ensures tt
+simple::simple_from-returns-then-height-most-clause-exact t c = λ ts read. because (one (g.simple c.args.mode)) (continues_simple c.args.mode) (suc c.args.depth) ts stop.Memory _ c.discard_expr.ensures tt
 
 pub simple::simple_from-returns-in-Err-clause-exact : goal.simple::simple_from-returns-in-Err-clause-exact
 simple::simple_from-returns-in-Err-clause-exact t c = λ ts found. simple_refused c.args.mode c.args.depth ts c.in-Err.error (c.in-Err.ensures.exact ts found)
 
 pub simple::simple_from-returns-in-None-clause-exact : goal.simple::simple_from-returns-in-None-clause-exact
 simple::simple_from-returns-in-None-clause-exact t c = λ ts found.
-    eval_answer c.args.mode c.args.depth ts c.args.first c.in-Ok.read.0.items c.in-Ok.read.1 c.in-Ok.read.2.now _ _ c.in-Ok.ensures.first (c.in-Ok.ensures.exact ts found) c.in-None.ensures.none c.eval.ensures refl
+    eval_answer c.args.mode c.args.depth ts c.args.first c.in-Ok.read.0.items c.in-Ok.read.1 c.in-Ok.read.2.now _ _ c.in-Ok.ensures.first (c.in-Ok.ensures.exact ts found) c.in-None.ensures.none
+    (c.in_ok-eval-in-None.ensures ∙ ap (λ (e : tree.Expr). tree.stmt (tree.first_of e) (tree.eval (exprs c.in-Ok.read.0.items))) c.first.view_is) refl
 
 pub simple::simple_from-returns-then-n-from-clause-exact : goal.simple::simple_from-returns-then-n-from-clause-exact
 simple::simple_from-returns-then-n-from-clause-exact t c = λ ts found.
@@ -1330,10 +1323,10 @@ simple::simple_from-returns-then-n-from-clause-exact t c = λ ts found.
     (assign_over c.args.mode c.args.depth ts c.args.first c.in-Ok.read.0.items c.in-Ok.read.1 c.in-Ok.read.2.now c.in-Some.found.1 c.in-Some.found.0 c.in-Some.found.2.now c.in-Ok.ensures.first (c.in-Ok.ensures.exact ts found)
     (record { is = c.in-Some.ensures.is; op_is = c.in-Some.ensures.op }) (omega arith))
 
-pub simple::simple_from-returns-in-Ok-exprs-clause-exact : goal.simple::simple_from-returns-in-Ok-exprs-clause-exact
-simple::simple_from-returns-in-Ok-exprs-clause-exact t c = λ ts found.
+pub simple::simple_from-returns-in_ok-assign-in-Ok-exprs-clause-exact : goal.simple::simple_from-returns-in_ok-assign-in-Ok-exprs-clause-exact
+simple::simple_from-returns-in_ok-assign-in-Ok-exprs-clause-exact t c = λ ts found.
     assign_answer c.args.mode c.later.result c.args.depth ts c.args.first c.in-Ok.read.0.items c.in-Ok.read.1 c.in-Ok.read.2.now c.in-Some.found.1 c.in-Some.found.0 c.in-Some.found.2.now c.in-Ok-exprs.values.items c.in-Ok-exprs.m c.in-Ok-exprs.after.now _ _
-    c.later.ensures c.in-Ok.ensures.first (c.in-Ok.ensures.exact ts found) (record { is = c.in-Some.ensures.is; op_is = c.in-Some.ensures.op }) (omega arith) c.in-Ok-exprs.ensures.exact c.assign.ensures (omega (arith, c.max.ensures))
+    c.later.ensures c.in-Ok.ensures.first (c.in-Ok.ensures.exact ts found) (record { is = c.in-Some.ensures.is; op_is = c.in-Some.ensures.op }) (omega arith) c.in-Ok-exprs.ensures.exact c.in_ok-assign-in-Ok-exprs.ensures (omega (arith, c.max.ensures))
 
 pub simple::simple_from-returns-in-Err-exprs-clause-exact : goal.simple::simple_from-returns-in-Err-exprs-clause-exact
 simple::simple_from-returns-in-Err-exprs-clause-exact t c = λ ts found.
@@ -1366,9 +1359,9 @@ declaration::declaration-returns-in-Err-expect-clause-exact t c =
     refused_depth (one (g.declaration c.args.mode)) (continues_declaration c.args.mode) c.args.depth (c.args.depth - 1) c.args.tokens.now c.in-Err-expect.error (omega arith)
     (declaration_no_colon c.args.mode (c.args.depth - 1) c.args.tokens.now c.in-Some.found.1.now c.in-Ok.read.0.items c.in-Ok.read.1.now c.in-Some.found.0 c.in-Err-expect.error c.in-Some.ensures.is (c.in-Ok.ensures.found (c.args.depth - 1)) c.in-Err-expect.ensures.refused)
 
-pub declaration::behind_colon-returns-in-Ok-clause-exact : goal.declaration::behind_colon-returns-in-Ok-clause-exact
-declaration::behind_colon-returns-in-Ok-clause-exact t c = λ ts read.
-    answer_is (sym c.inferred.ensures) refl
+pub declaration::behind_colon-returns-in_ok-inferred-in-Ok-clause-exact : goal.declaration::behind_colon-returns-in_ok-inferred-in-Ok-clause-exact
+declaration::behind_colon-returns-in_ok-inferred-in-Ok-clause-exact t c = λ ts read.
+    answer_is (sym c.in_ok-inferred-in-Ok.ensures) refl
     (inferred_answer c.args.mode c.args.depth ts c.args.at c.args.names.items c.args.tokens.now c.in-Some._assign c.in-Some.rest.now (exprs c.in-Ok.values.items) c.in-Ok.height _ c.in-Ok.after.now (headed_at c.args.mode c.args.depth ts c.args.at c.args.names.items c.args.tokens.now read)
     c.in-Some.ensures.is c.in-Some.ensures.kind c.in-Ok.ensures.exact (omega arith))
 
@@ -1377,9 +1370,9 @@ declaration::behind_colon-returns-in-Err-clause-exact t c = λ ts read.
     inferred_refused c.args.mode c.args.depth ts c.args.at c.args.names.items c.args.tokens.now c.in-Some._assign c.in-Some.rest.now c.in-Err.error (headed_at c.args.mode c.args.depth ts c.args.at c.args.names.items c.args.tokens.now read)
     c.in-Some.ensures.is c.in-Some.ensures.kind c.in-Err.ensures.exact
 
-pub declaration::behind_colon-returns-in-Ok-exprs-clause-exact : goal.declaration::behind_colon-returns-in-Ok-exprs-clause-exact
-declaration::behind_colon-returns-in-Ok-exprs-clause-exact t c = λ ts read.
-    answer_is (sym c.constant.ensures) refl
+pub declaration::behind_colon-returns-in_ok-constant-in-Ok-exprs-clause-exact : goal.declaration::behind_colon-returns-in_ok-constant-in-Ok-exprs-clause-exact
+declaration::behind_colon-returns-in_ok-constant-in-Ok-exprs-clause-exact t c = λ ts read.
+    answer_is (sym c.in_ok-constant-in-Ok-exprs.ensures) refl
     (constant_answer c.args.mode c.args.depth ts c.args.at c.args.names.items c.args.tokens.now c.in-Some-strip._colon c.in-Some-strip.rest.now (exprs c.in-Ok-exprs.values.items) c.in-Ok-exprs.height _ c.in-Ok-exprs.after.now
     (headed_at c.args.mode c.args.depth ts c.args.at c.args.names.items c.args.tokens.now read) c.in-Some-strip.ensures.is c.in-Some-strip.ensures.kind c.in-Ok-exprs.ensures.exact (omega arith))
 
@@ -1526,10 +1519,10 @@ pub statement::last_level-returns-in-Some-clause_on-clause-exact : goal.statemen
 statement::last_level-returns-in-Some-clause_on-clause-exact t c = λ k none.
     named_over c.args.name c.in-Some-clause_on._token (c.args.name ∷ c.args.behind.now) c.args.behind.now c.in-Some-clause_on.rest.now refl k c.in-Some-clause_on.ensures.is c.in-Some-clause_on.ensures.on
 
-pub statement::last_level-returns-in_ok-list-in-None-clause-exact : goal.statement::last_level-returns-in_ok-list-in-None-clause-exact
-statement::last_level-returns-in_ok-list-in-None-clause-exact t c = λ k none.
-    answer_is (sym c.eval.ensures) refl
-    (named_alone c.args.name (c.args.name ∷ c.args.behind.now) c.args.behind.now c.in_ok-list-in-None.list.items c.leaf.result refl k c.in_ok-list-in-None.ensures (ap expr c.leaf.ensures) c.in_default.ensures.none c.in-None.ensures.none)
+pub statement::last_level-returns-in_ok-eval-in-None-clause-exact : goal.statement::last_level-returns-in_ok-eval-in-None-clause-exact
+statement::last_level-returns-in_ok-eval-in-None-clause-exact t c = λ k none.
+    answer_is (sym c.in_ok-eval-in-None.ensures) refl
+    (named_alone c.args.name (c.args.name ∷ c.args.behind.now) c.args.behind.now c.in_ok-list-in-None.list.items c.in_ok-e-in-None.e refl k c.in_ok-list-in-None.ensures c.in_ok-e-in-None.ensures c.in_default.ensures.none c.in-None.ensures.none)
 
 pub statement::declared_too_deep-returns-in-Some : goal.statement::declared_too_deep-returns-in-Some
 statement::declared_too_deep-returns-in-Some t c = record {
@@ -1586,15 +1579,15 @@ statement::defer-returns-in-Err-clause-exact t c = λ f.
 pub statement::returns-returns-then-depth-eq0-clause-exact : goal.statement::returns-returns-then-depth-eq0-clause-exact
 statement::returns-returns-then-depth-eq0-clause-exact t c = λ f. statement_zero c.args.depth statement_form.Return (c.args.token ∷ c.args.behind.now) c.args.token c.args.behind.now c.if-depth-eq0.true refl f (λ e. cc)
 
-pub statement::returns-returns-in-Ok-clause-exact : goal.statement::returns-returns-in-Ok-clause-exact
-statement::returns-returns-in-Ok-clause-exact t c = λ f.
+pub statement::returns-returns-in_ok-returns-in-Ok-clause-exact : goal.statement::returns-returns-in_ok-returns-in-Ok-clause-exact
+statement::returns-returns-in_ok-returns-in-Ok-clause-exact t c = λ f.
     found_depth (c.args.depth - 1) (omega arith)
-    (answer_is (sym c.returns.ensures) refl (return_answer (c.args.depth - 1) c.args.token c.args.behind.now (exprs c.in-Ok.values.items) c.in-Ok.height _ c.in-Ok.after.now f c.in-Ok.ensures.exact c.in-Ok.ensures.shorter (omega arith)))
+    (answer_is (sym c.in_ok-returns-in-Ok.ensures) refl (return_answer (c.args.depth - 1) c.args.token c.args.behind.now (exprs c.in-Ok.values.items) c.in-Ok.height _ c.in-Ok.after.now f c.in-Ok.ensures.exact c.in-Ok.ensures.shorter (omega arith)))
 
-pub statement::returns-returns-then-stands_at-clause-exact : goal.statement::returns-returns-then-stands_at-clause-exact
-statement::returns-returns-then-stands_at-clause-exact t c = λ f.
+pub statement::returns-returns-in_ok-returns-in-Err-clause-exact : goal.statement::returns-returns-in_ok-returns-in-Err-clause-exact
+statement::returns-returns-in_ok-returns-in-Err-clause-exact t c = λ f.
     found_depth (c.args.depth - 1) (omega arith)
-    (answer_is (sym (c.returns-then-stands_at.ensures ∙ ap (λ (l : List Expr). tree.stmt c.args.token.at (tree.return (exprs l))) c.new-nothing.ensures.items)) refl
+    (answer_is (sym (c.in_ok-returns-in-Err.ensures ∙ ap (λ (l : List Expr). tree.stmt c.args.token.at (tree.return (exprs l))) c.new-nothing.ensures.items)) refl
     (return_alone (c.args.depth - 1) c.args.token c.args.behind.now f
     (because (one (g.exprs Free)) (continues_exprs Free) (c.args.depth - 1) c.args.behind.now c.in-Err.error (stop.Syntax (length c.args.behind.now)) (sym (c.stands_at.ensures.0 c.if-stands_at.true)) c.in-Err.ensures.exact)))
 
@@ -1604,10 +1597,10 @@ statement::returns-returns-else-stands_at-clause-exact t c = λ f.
     (return_refused (c.args.depth - 1) c.args.token c.args.behind.now c.in-Err.error f c.in-Err.ensures.exact (λ e. let bad : true ≡ false = sym (c.stands_at.ensures.1 e) ∙ c.if-stands_at.false in cc))
 
 -- a block, a loop or a switch
-pub statement::labelled-returns-in-Ok-clause-read : goal.statement::labelled-returns-in-Ok-clause-read
-statement::labelled-returns-in-Ok-clause-read t c = record {
+pub statement::labelled-returns-in_ok-block-in-Ok-clause-read : goal.statement::labelled-returns-in_ok-block-in-Ok-clause-read
+statement::labelled-returns-in_ok-block-in-Ok-clause-read t c = record {
   value = (c.in-Some.open.at, g.block (stmts c.in-Ok.body.stmts.items));
-  is = c.block.ensures;
+  is = c.in_ok-block-in-Ok.ensures;
   found = at_tokens (one labelled_part) continues_statement c.args.depth c.args.tokens.now c.in-Some.open c.in-Some.inner.now (Yes (c.in-Some.open.at, g.block (stmts c.in-Ok.body.stmts.items)) c.in-Ok.height c.in-Ok.rest.now) c.in-Some.ensures.is
       (alone_answer c.args.depth c.in-Some.open c.in-Some.inner.now (stmts c.in-Ok.body.stmts.items) _ c.in-Ok.height c.in-Ok.rest.now c.in-Some.ensures.kind c.in-Ok.ensures.exact);
 }
@@ -1780,9 +1773,9 @@ conditional::otherwise-returns-then-height-from-clause-exact t c = λ ts z.
     (else_over c.args.depth ts z.first (head_of c.args.head).0 (head_of c.args.head).1.0 (stmts c.args.block.items) c.args.height c.args.tokens.now c.in-Some.found.0 c.in-Some.found.1.now
     (if_read c.args.depth ts c.args.at (head_of c.args.head) (stmts c.args.block.items) c.args.height c.args.tokens.now z) (omega arith) c.in-Some.ensures.is c.in-Some.ensures.kind)
 
-pub conditional::otherwise-returns-in_ok-else_if-in-Ok-clause-exact : goal.conditional::otherwise-returns-in_ok-else_if-in-Ok-clause-exact
-conditional::otherwise-returns-in_ok-else_if-in-Ok-clause-exact t c = λ ts z.
-    answer_is (placed_so c.args.at z.first.at _ _ z.place c.in_ok-else_if-in-Ok.ensures) refl
+pub conditional::otherwise-returns-in_ok-conditional-in-Ok-clause-exact : goal.conditional::otherwise-returns-in_ok-conditional-in-Ok-clause-exact
+conditional::otherwise-returns-in_ok-conditional-in-Ok-clause-exact t c = λ ts z.
+    answer_is (placed_so c.args.at z.first.at _ _ z.place c.in_ok-conditional-in-Ok.ensures) refl
     (elif_answer c.args.depth ts z.first (head_of c.args.head).0 (head_of c.args.head).1.0 (stmts c.args.block.items) c.args.height c.args.tokens.now c.in-Some.found.0 c.in-Some.found.1.now c.in-Some-strip._if c.in-Some-strip._after.now (stmt c.in-Ok.s) c.in-Ok.n _ c.in-Ok.after.now
     (if_read c.args.depth ts c.args.at (head_of c.args.head) (stmts c.args.block.items) c.args.height c.args.tokens.now z) (omega arith) c.in-Some.ensures.is c.in-Some.ensures.kind c.in-Some-strip.ensures.is c.in-Some-strip.ensures.kind c.in-Ok.ensures.exact (omega (arith, c.max.ensures)))
 
@@ -1794,10 +1787,7 @@ conditional::otherwise-returns-in-Err-clause-exact t c = λ ts z.
 
 pub conditional::otherwise-returns-in_ok-conditional-in-Ok-body-clause-exact : goal.conditional::otherwise-returns-in_ok-conditional-in-Ok-body-clause-exact
 conditional::otherwise-returns-in_ok-conditional-in-Ok-body-clause-exact t c = λ ts z.
-    answer_is
-    (placed_so c.args.at z.first.at _ _ z.place
-    (c.in_ok-conditional-in-Ok-body.ensures ∙ ap (λ (x : tree.Else). tree.stmt c.args.at (tree.if_ (head_of c.args.head).0 (head_of c.args.head).1.0 (stmts c.args.block.items) x)) (kind-Body c.in-Ok-body.other)))
-    refl
+    answer_is (placed_so c.args.at z.first.at _ _ z.place c.in_ok-conditional-in-Ok-body.ensures) refl
     (else_answer c.args.depth ts z.first (head_of c.args.head).0 (head_of c.args.head).1.0 (stmts c.args.block.items) c.args.height c.args.tokens.now c.in-Some.found.0 c.in-Some.found.1.now (stmts c.in-Ok-body.other.items) c.in-Ok-body.n _ c.in-Ok-body.after.now
     (if_read c.args.depth ts c.args.at (head_of c.args.head) (stmts c.args.block.items) c.args.height c.args.tokens.now z) (omega arith) c.in-Some.ensures.is c.in-Some.ensures.kind c.in_default.ensures.none c.in-Ok-body.ensures.exact (omega (arith, c.max-in-Ok-body.ensures)))
 
@@ -1811,11 +1801,10 @@ conditional::otherwise-returns-in-Err-body-clause-exact t c = λ ts z.
 pub conditional::before_body-returns-then-depth-eq0-clause-exact : goal.conditional::before_body-returns-then-depth-eq0-clause-exact
 conditional::before_body-returns-then-depth-eq0-clause-exact t c = head_zero c.args.depth c.args.tokens.now c.nothing_fits.result c.if-depth-eq0.true c.nothing_fits.ensures.exact
 
-pub conditional::before_body-returns-in_ok-declared-in-Ok-clause-exact : goal.conditional::before_body-returns-in_ok-declared-in-Ok-clause-exact
-conditional::before_body-returns-in_ok-declared-in-Ok-clause-exact t c =
+pub conditional::before_body-returns-in-Ok-clause-exact : goal.conditional::before_body-returns-in-Ok-clause-exact
+conditional::before_body-returns-in-Ok-clause-exact t c =
     c.closed.ensures.exact c.args.tokens.now
-    (subst (λ (h : tree.Header). ClosedFrom c.args.depth c.args.tokens.now h c.in-Ok.n c.in-Ok.rest.now) (sym c.in_ok-declared-in-Ok.ensures)
-    (declared c.in-Declared.ensures.0 (decl c.in-Ok.d) c.in-Ok.n c.in-Ok.rest.now (omega arith) c.in-Declared.ensures.1 c.in-Ok.ensures.exact))
+    (declared c.in-Declared.ensures.0 (decl c.in-Ok.d) c.in-Ok.n c.in-Ok.rest.now (omega arith) c.in-Declared.ensures.1 c.in-Ok.ensures.exact)
 
 pub conditional::before_body-returns-in-Err-clause-exact : goal.conditional::before_body-returns-in-Err-clause-exact
 conditional::before_body-returns-in-Err-clause-exact t c = head_declaration_refused c.args.depth c.args.tokens.now c.in-Declared.ensures.0 c.in-Err.error (omega arith) c.in-Declared.ensures.1 c.in-Err.ensures.exact
@@ -1823,11 +1812,10 @@ conditional::before_body-returns-in-Err-clause-exact t c = head_declaration_refu
 pub conditional::before_body-returns-then-depth-eq1-clause-exact : goal.conditional::before_body-returns-then-depth-eq1-clause-exact
 conditional::before_body-returns-then-depth-eq1-clause-exact t c = head_run_over c.args.depth c.args.tokens.now c.in-Listed.ensures.0 c.run_over.result c.if-depth-eq1.true (listed_at c.args.tokens.now c.in-Listed.ensures.0 c.in-Listed.ensures.1) c.run_over.ensures
 
-pub conditional::before_body-returns-in_ok-assigned-in-Ok-simple-clause-exact : goal.conditional::before_body-returns-in_ok-assigned-in-Ok-simple-clause-exact
-conditional::before_body-returns-in_ok-assigned-in-Ok-simple-clause-exact t c =
+pub conditional::before_body-returns-in-Ok-simple-clause-exact : goal.conditional::before_body-returns-in-Ok-simple-clause-exact
+conditional::before_body-returns-in-Ok-simple-clause-exact t c =
     c.closed-in-Ok-simple.ensures.exact c.args.tokens.now
-    (subst (λ (h : tree.Header). ClosedFrom c.args.depth c.args.tokens.now h c.in-Ok-simple.n c.in-Ok-simple.rest.now) (sym c.in_ok-assigned-in-Ok-simple.ensures)
-    (listed c.in-Listed.ensures.0 (stmt c.in-Ok-simple.s) c.in-Ok-simple.n c.in-Ok-simple.rest.now (omega arith) c.in-Listed.ensures.1 c.in-Ok-simple.ensures.exact))
+    (listed c.in-Listed.ensures.0 (stmt c.in-Ok-simple.s) c.in-Ok-simple.n c.in-Ok-simple.rest.now (omega arith) c.in-Listed.ensures.1 c.in-Ok-simple.ensures.exact)
 
 pub conditional::before_body-returns-in-Err-simple-clause-exact : goal.conditional::before_body-returns-in-Err-simple-clause-exact
 conditional::before_body-returns-in-Err-simple-clause-exact t c =
@@ -1847,7 +1835,7 @@ conditional::behind_expression-returns-in-None-clause-exact t c = λ ts place z.
 
 pub conditional::behind_expression-returns-then-height-from-clause-exact : goal.conditional::behind_expression-returns-then-height-from-clause-exact
 conditional::behind_expression-returns-then-height-from-clause-exact t c = λ ts place z.
-    because head_line continues_head c.args.depth ts (stop.Deep (length c.in-Some.found.1.now)) _ c.discard.ensures
+    because head_line continues_head c.args.depth ts (stop.Deep (length c.in-Some.found.1.now)) _ c.discard_expr.ensures
     (head_over c.args.depth ts place (expr c.args.e) c.args.height c.args.tokens.now c.in-Some.found.0 c.in-Some.found.1.now (expression_at c.args.depth ts place (expr c.args.e) c.args.height c.args.tokens.now z) c.in-Some.ensures.is c.in-Some.ensures.on (omega arith))
 
 pub conditional::behind_expression-returns-then-same_kind-clause-exact : goal.conditional::behind_expression-returns-then-same_kind-clause-exact
@@ -1856,13 +1844,12 @@ conditional::behind_expression-returns-then-same_kind-clause-exact t c = λ ts p
     (condition_is (sym c.in_ok-header.ensures) (omega arith)
     (evaluated (c.args.depth - 1) place (expr c.args.e) c.args.height c.args.tokens.now c.in-Some.found.0 c.in-Some.found.1.now (omega arith) z (omega arith) c.in-Some.ensures.is (c.same_kind.ensures.0 c.if-same_kind.true)))
 
-pub conditional::behind_expression-returns-in_ok-assigned-in-Ok-clause-exact : goal.conditional::behind_expression-returns-in_ok-assigned-in-Ok-clause-exact
-conditional::behind_expression-returns-in_ok-assigned-in-Ok-clause-exact t c = λ ts place z.
+pub conditional::behind_expression-returns-in-Ok-clause-exact : goal.conditional::behind_expression-returns-in-Ok-clause-exact
+conditional::behind_expression-returns-in-Ok-clause-exact t c = λ ts place z.
     c.closed.ensures.exact ts
-    (subst (λ (h : tree.Header). ClosedFrom c.args.depth ts h c.in-Ok.n c.in-Ok.rest.now) (sym c.in_ok-assigned-in-Ok.ensures)
     (begun (c.args.depth - 1) place (expr c.args.e) c.args.height c.args.tokens.now c.in-Some.found.0 c.in-Some.found.1.now (stmt c.in-Ok.s) c.in-Ok.n c.in-Ok.rest.now (omega arith) z (omega arith) c.in-Some.ensures.is
     (goes_behind c.in-Some.found.0.kind c.in-Some.ensures.on (λ e. let bad : true ≡ false = sym (c.same_kind.ensures.1 e) ∙ c.if-same_kind.false in cc))
-    (at_depth (one (g.simple mode.Header)) (continues_simple mode.Header) c.args.depth (c.args.depth - 1) ts (Yes (stmt c.in-Ok.s) c.in-Ok.n c.in-Ok.rest.now) (omega arith) (c.in-Ok.ensures.exact ts (lower_found (omega arith) z.found)))))
+    (at_depth (one (g.simple mode.Header)) (continues_simple mode.Header) c.args.depth (c.args.depth - 1) ts (Yes (stmt c.in-Ok.s) c.in-Ok.n c.in-Ok.rest.now) (omega arith) (c.in-Ok.ensures.exact ts (lower_found (omega arith) z.found))))
 
 pub conditional::behind_expression-returns-in-Err-clause-exact : goal.conditional::behind_expression-returns-in-Err-clause-exact
 conditional::behind_expression-returns-in-Err-clause-exact t c = λ ts place z.
@@ -1902,35 +1889,35 @@ spans::span-returns-in-Err-clause-exact t c = span_refused c.args.mode c.args.de
 
 pub spans::span_from-returns-then-height-from-clause-exact : goal.spans::span_from-returns-then-height-from-clause-exact
 spans::span_from-returns-then-height-from-clause-exact t c = λ ts found.
-    because (one (g.span_ c.args.mode)) (continues_span c.args.mode) c.args.depth ts (stop.Deep (length c.in-Some.behind.now)) c.discard.result c.discard.ensures
+    because (one (g.span_ c.args.mode)) (continues_span c.args.mode) c.args.depth ts (stop.Deep (length c.in-Some.behind.now)) c.discard_expr.result c.discard_expr.ensures
     (through_deep c.args.mode c.args.depth ts (expr c.args.from) c.args.height c.args.tokens.now c.in-Some._through c.in-Some.behind.now (from_read c.args.mode c.args.depth ts (expr c.args.from) c.args.height c.args.tokens.now found) (omega arith) c.in-Some.ensures.is c.in-Some.ensures.kind)
 
-pub spans::span_from-returns-in_ok-through-in-Ok-clause-exact : goal.spans::span_from-returns-in_ok-through-in-Ok-clause-exact
-spans::span_from-returns-in_ok-through-in-Ok-clause-exact t c = λ ts found.
-    answer_is (sym c.in_ok-through-in-Ok.ensures) refl
+pub spans::span_from-returns-in-Ok-clause-exact : goal.spans::span_from-returns-in-Ok-clause-exact
+spans::span_from-returns-in-Ok-clause-exact t c = λ ts found.
+    answer_is (sym c.through.ensures) refl
     (through_answer c.args.mode c.args.depth ts (expr c.args.from) c.args.height c.args.tokens.now c.in-Some._through c.in-Some.behind.now (expr c.in-Ok.to) c.in-Ok.n c.max.result c.in-Ok.rest.now
     (from_read c.args.mode c.args.depth ts (expr c.args.from) c.args.height c.args.tokens.now found) (omega arith) c.in-Some.ensures.is c.in-Some.ensures.kind c.in-Ok.ensures.exact (omega (arith, c.max.ensures)))
 
 pub spans::span_from-returns-in-Err-clause-exact : goal.spans::span_from-returns-in-Err-clause-exact
 spans::span_from-returns-in-Err-clause-exact t c = λ ts found.
-    because (one (g.span_ c.args.mode)) (continues_span c.args.mode) c.args.depth ts c.in-Err.error c.discard-in-Err.result c.discard-in-Err.ensures
+    because (one (g.span_ c.args.mode)) (continues_span c.args.mode) c.args.depth ts c.in-Err.error c.discard_expr-in-Err.result c.discard_expr-in-Err.ensures
     (through_refused c.args.mode c.args.depth ts (expr c.args.from) c.args.height c.args.tokens.now c.in-Some._through c.in-Some.behind.now c.in-Err.error (from_read c.args.mode c.args.depth ts (expr c.args.from) c.args.height c.args.tokens.now found) (omega arith)
     c.in-Some.ensures.is c.in-Some.ensures.kind c.in-Err.ensures.exact)
 
 pub spans::span_from-returns-then-height-from-2-clause-exact : goal.spans::span_from-returns-then-height-from-2-clause-exact
 spans::span_from-returns-then-height-from-2-clause-exact t c = λ ts found.
-    because (one (g.span_ c.args.mode)) (continues_span c.args.mode) c.args.depth ts (stop.Deep (length c.in-Some-strip.behind.now)) c.discard-then-height-from-2.result c.discard-then-height-from-2.ensures
+    because (one (g.span_ c.args.mode)) (continues_span c.args.mode) c.args.depth ts (stop.Deep (length c.in-Some-strip.behind.now)) c.discard_expr-then-height-from-2.result c.discard_expr-then-height-from-2.ensures
     (below_deep c.args.mode c.args.depth ts (expr c.args.from) c.args.height c.args.tokens.now c.in-Some-strip._below c.in-Some-strip.behind.now (from_read c.args.mode c.args.depth ts (expr c.args.from) c.args.height c.args.tokens.now found) (omega arith) c.in-Some-strip.ensures.is c.in-Some-strip.ensures.kind)
 
-pub spans::span_from-returns-in_ok-below-in-Ok-level-clause-exact : goal.spans::span_from-returns-in_ok-below-in-Ok-level-clause-exact
-spans::span_from-returns-in_ok-below-in-Ok-level-clause-exact t c = λ ts found.
-    answer_is (sym c.in_ok-below-in-Ok-level.ensures) refl
+pub spans::span_from-returns-in-Ok-level-clause-exact : goal.spans::span_from-returns-in-Ok-level-clause-exact
+spans::span_from-returns-in-Ok-level-clause-exact t c = λ ts found.
+    answer_is (sym c.below.ensures) refl
     (below_answer c.args.mode c.args.depth ts (expr c.args.from) c.args.height c.args.tokens.now c.in-Some-strip._below c.in-Some-strip.behind.now (expr c.in-Ok-level.to) c.in-Ok-level.n c.max-in-Ok-level.result c.in-Ok-level.rest.now
     (from_read c.args.mode c.args.depth ts (expr c.args.from) c.args.height c.args.tokens.now found) (omega arith) c.in-Some-strip.ensures.is c.in-Some-strip.ensures.kind c.in-Ok-level.ensures.exact (omega (arith, c.max-in-Ok-level.ensures)))
 
 pub spans::span_from-returns-in-Err-level-clause-exact : goal.spans::span_from-returns-in-Err-level-clause-exact
 spans::span_from-returns-in-Err-level-clause-exact t c = λ ts found.
-    because (one (g.span_ c.args.mode)) (continues_span c.args.mode) c.args.depth ts c.in-Err-level.error c.discard-in-Err-level.result c.discard-in-Err-level.ensures
+    because (one (g.span_ c.args.mode)) (continues_span c.args.mode) c.args.depth ts c.in-Err-level.error c.discard_expr-in-Err-level.result c.discard_expr-in-Err-level.ensures
     (below_refused c.args.mode c.args.depth ts (expr c.args.from) c.args.height c.args.tokens.now c.in-Some-strip._below c.in-Some-strip.behind.now c.in-Err-level.error (from_read c.args.mode c.args.depth ts (expr c.args.from) c.args.height c.args.tokens.now found) (omega arith)
     c.in-Some-strip.ensures.is c.in-Some-strip.ensures.kind c.in-Err-level.ensures.exact)
 
@@ -2021,8 +2008,8 @@ cases::cases-cases-preserved t c =
     let low = c.within.ensures.0 c.in-Ok-expect.ensures.within in
     record {
       led =
-          case_answer c.args.depth c.args.tokens.now c.cases.list.items c.in_ok-list.list.items c.case.result c.in-Some.word.at (spans c.in-Ok.read.0.items) (stmts c.in-Ok-stmts.read.0.items) (max c.cases.height c.in-Ok.read.1) c.in-Ok-expect.inner.now c.in-Ok-stmts.read.1 c.max-height.result c.in-Ok-stmts.read.2.now
-          c.case.ensures
+          case_answer c.args.depth c.args.tokens.now c.cases.list.items c.in_ok-list.list.items (record { at = c.in-Some.word.at; items = c.in-Ok.read.0; body = c.in-Ok-stmts.read.0 }) c.in-Some.word.at (spans c.in-Ok.read.0.items) (stmts c.in-Ok-stmts.read.0.items) (max c.cases.height c.in-Ok.read.1) c.in-Ok-expect.inner.now c.in-Ok-stmts.read.1 c.max-height.result c.in-Ok-stmts.read.2.now
+          (λ l. refl)
           (case_colon c.args.depth c.args.tokens.now c.cases.list.items c.in-Some.word.at (spans c.in-Ok.read.0.items) (max c.cases.height c.in-Ok.read.1) c.in-Ok.read.2.now c.in-Ok-expect._colon c.in-Ok-expect.inner.now
           (case_items c.args.depth c.args.tokens.now c.cases.list.items c.in-Some.word.at c.cases.height c.in-Some.behind.now (spans c.in-Ok.read.0.items) c.in-Ok.read.1 c.in-Ok.read.2.now
           (case_at c.args.depth c.args.tokens.now c.cases.list.items c.cases.height c.cases.rest.now c.in-Some.word c.in-Some.behind.now c.cases.invariant.led (omega arith) c.in-Some.ensures.is c.in-Some.ensures.kind) (omega arith) c.in-Ok.ensures.exact)
@@ -2053,11 +2040,10 @@ switches::before_cases-returns-in-Err-clause-exact t c =
 pub switches::before_cases-returns-then-depth-eq0-clause-exact : goal.switches::before_cases-returns-then-depth-eq0-clause-exact
 switches::before_cases-returns-then-depth-eq0-clause-exact t c = bound_is switch_head before_cases c.args.tokens.now _ c.if-depth-eq0.true (c.no_level.ensures.exact c.in_default.ensures.none)
 
-pub switches::before_cases-returns-in_ok-declared-in-Ok-declaration-clause-exact : goal.switches::before_cases-returns-in_ok-declared-in-Ok-declaration-clause-exact
-switches::before_cases-returns-in_ok-declared-in-Ok-declaration-clause-exact t c =
+pub switches::before_cases-returns-in-Ok-declaration-clause-exact : goal.switches::before_cases-returns-in-Ok-declaration-clause-exact
+switches::before_cases-returns-in-Ok-declaration-clause-exact t c =
     c.closed.ensures.exact c.args.tokens.now c.in_default.ensures.none
-    (closed_as c.args.depth c.args.tokens.now (header_of c.in_ok-declared-in-Ok-declaration.field-0) (tree.decl_header (decl c.in-Ok-declaration.d)) c.in-Ok-declaration.n c.in-Ok-declaration.rest.now c.in_ok-declared-in-Ok-declaration.ensures
-    (header.declared c.in-Declared.ensures.0 (decl c.in-Ok-declaration.d) c.in-Ok-declaration.n c.in-Ok-declaration.rest.now (omega arith) c.in-Declared.ensures.1 c.in-Ok-declaration.ensures.exact))
+    (header.declared c.in-Declared.ensures.0 (decl c.in-Ok-declaration.d) c.in-Ok-declaration.n c.in-Ok-declaration.rest.now (omega arith) c.in-Declared.ensures.1 c.in-Ok-declaration.ensures.exact)
 
 pub switches::before_cases-returns-in-Err-declaration-clause-exact : goal.switches::before_cases-returns-in-Err-declaration-clause-exact
 switches::before_cases-returns-in-Err-declaration-clause-exact t c =
@@ -2095,19 +2081,19 @@ pub switches::no_level-returns-in-Some-head_on-clause-exact : goal.switches::no_
 switches::no_level-returns-in-Some-head_on-clause-exact t c = λ untyped.
     zero_over 0 c.args.tokens.now c.in-Some.found.0 c.in-Some.found.1.now c.in-Some-head_on._token c.in-Some-head_on.rest.now refl c.in-Some.ensures.is c.in-Some.ensures.kind c.in-Some-head_on.ensures.is untyped c.in-Some-head_on.ensures.on
 
-pub switches::no_level-returns-in-None-head_on-clause-exact : goal.switches::no_level-returns-in-None-head_on-clause-exact
-switches::no_level-returns-in-None-head_on-clause-exact t c = λ untyped.
-    answer_is (sym (c.value_alone.ensures ∙ ap (λ e. by_value tree.no_header (tree.some_expr (expr e))) c.leaf-e.ensures)) refl
+pub switches::no_level-returns-in_ok-e-in-None-head_on-clause-exact : goal.switches::no_level-returns-in_ok-e-in-None-head_on-clause-exact
+switches::no_level-returns-in_ok-e-in-None-head_on-clause-exact t c = λ untyped.
+    answer_is (sym (c.value_alone.ensures ∙ ap (λ e. by_value tree.no_header (tree.some_expr (expr e))) c.in_ok-e-in-None-head_on.ensures)) refl
     (zero_alone 0 c.args.tokens.now c.in-Some.found.0 c.in-Some.found.1.now refl c.in-Some.ensures.is c.in-Some.ensures.kind untyped c.in-None-head_on.ensures.none)
 
 -- several names
 pub switches::listed-returns-then-depth-le1-clause-exact : goal.switches::listed-returns-then-depth-le1-clause-exact
 switches::listed-returns-then-depth-le1-clause-exact t c = λ place some untyped z. listed_over c.args.depth c.args.tokens.now place c.run_over.result untyped (omega (arith, some)) z c.run_over.ensures
 
-pub switches::listed-returns-in_ok-assigned-in-Ok-clause-exact : goal.switches::listed-returns-in_ok-assigned-in-Ok-clause-exact
-switches::listed-returns-in_ok-assigned-in-Ok-clause-exact t c = λ place some untyped z.
+pub switches::listed-returns-in-Ok-clause-exact : goal.switches::listed-returns-in-Ok-clause-exact
+switches::listed-returns-in-Ok-clause-exact t c = λ place some untyped z.
     c.closed.ensures.exact c.args.tokens.now untyped
-    (closed_as c.args.depth c.args.tokens.now (header_of c.in_ok-assigned-in-Ok.field-0) (tree.simple_header (stmt c.in-Ok.s)) c.in-Ok.n c.in-Ok.rest.now c.in_ok-assigned-in-Ok.ensures (header.listed place (stmt c.in-Ok.s) c.in-Ok.n c.in-Ok.rest.now (omega arith) z c.in-Ok.ensures.exact))
+    (header.listed place (stmt c.in-Ok.s) c.in-Ok.n c.in-Ok.rest.now (omega arith) z c.in-Ok.ensures.exact)
 
 pub switches::listed-returns-in-Err-clause-exact : goal.switches::listed-returns-in-Err-clause-exact
 switches::listed-returns-in-Err-clause-exact t c = λ place some untyped z. listed_refused c.args.depth c.args.tokens.now place c.in-Err.error untyped (omega arith) z c.in-Err.ensures.exact
@@ -2119,22 +2105,21 @@ switches::behind_value-returns-in-None-clause-exact t c = λ ts place untyped sh
 
 pub switches::behind_value-returns-then-height-from-clause-exact : goal.switches::behind_value-returns-then-height-from-clause-exact
 switches::behind_value-returns-then-height-from-clause-exact t c = λ ts place untyped shorter z.
-    because switch_head before_cases c.args.depth ts (stop.Deep (length c.in-Some.found.1.now)) c.discard.result c.discard.ensures
+    because switch_head before_cases c.args.depth ts (stop.Deep (length c.in-Some.found.1.now)) c.discard_expr.result c.discard_expr.ensures
     (value_over c.args.depth ts place (expr c.args.e) c.args.height c.args.tokens.now c.in-Some.found.0 c.in-Some.found.1.now untyped z c.in-Some.ensures.is c.in-Some.ensures.on (omega arith))
 
 pub switches::behind_value-returns-then-same_kind-clause-exact : goal.switches::behind_value-returns-then-same_kind-clause-exact
 switches::behind_value-returns-then-same_kind-clause-exact t c = λ ts place untyped shorter z.
     c.value.ensures.exact ts untyped
-    (condition_as c.args.depth ts (header_of c.in_ok-header.header) (tree.simple_header (tree.stmt c.args.e.first (tree.eval (tree.more_exprs (expr c.args.e) tree.no_exprs)))) (c.args.height + 1) (suc c.args.height) c.in-Some.found.1.now c.in_ok-header.ensures (omega arith)
+    (condition_as c.args.depth ts (header_of c.in_ok-header.header) (tree.simple_header (tree.stmt (tree.first_of c.args.e) (tree.eval (tree.more_exprs (expr c.args.e) tree.no_exprs)))) (c.args.height + 1) (suc c.args.height) c.in-Some.found.1.now c.in_ok-header.ensures (omega arith)
     (header.evaluated (c.args.depth - 1) place (expr c.args.e) c.args.height c.args.tokens.now c.in-Some.found.0 c.in-Some.found.1.now (omega arith) z (omega arith) c.in-Some.ensures.is (c.same_kind.ensures.0 c.if-same_kind.true)))
 
-pub switches::behind_value-returns-in_ok-assigned-in-Ok-clause-exact : goal.switches::behind_value-returns-in_ok-assigned-in-Ok-clause-exact
-switches::behind_value-returns-in_ok-assigned-in-Ok-clause-exact t c = λ ts place untyped shorter z.
+pub switches::behind_value-returns-in-Ok-clause-exact : goal.switches::behind_value-returns-in-Ok-clause-exact
+switches::behind_value-returns-in-Ok-clause-exact t c = λ ts place untyped shorter z.
     c.closed.ensures.exact ts untyped
-    (closed_as c.args.depth ts (header_of c.in_ok-assigned-in-Ok.field-0) (tree.simple_header (stmt c.in-Ok.s)) c.in-Ok.n c.in-Ok.rest.now c.in_ok-assigned-in-Ok.ensures
     (header.begun (c.args.depth - 1) place (expr c.args.e) c.args.height c.args.tokens.now c.in-Some.found.0 c.in-Some.found.1.now (stmt c.in-Ok.s) c.in-Ok.n c.in-Ok.rest.now (omega arith) z (omega arith) c.in-Some.ensures.is
     (goes_on_clause c.in-Some.found.0.kind c.in-Some.ensures.on (λ e. let bad : true ≡ false = sym (c.same_kind.ensures.1 e) ∙ c.if-same_kind.false in cc))
-    (bound_is (one (g.simple Header)) (continues_simple Header) ts (Yes (stmt c.in-Ok.s) c.in-Ok.n c.in-Ok.rest.now) (omega arith) (c.in-Ok.ensures.exact ts (lower_found (omega arith) z.found)))))
+    (bound_is (one (g.simple Header)) (continues_simple Header) ts (Yes (stmt c.in-Ok.s) c.in-Ok.n c.in-Ok.rest.now) (omega arith) (c.in-Ok.ensures.exact ts (lower_found (omega arith) z.found))))
 
 pub switches::behind_value-returns-in-Err-clause-exact : goal.switches::behind_value-returns-in-Err-clause-exact
 switches::behind_value-returns-in-Err-clause-exact t c = λ ts place untyped shorter z.
@@ -2299,11 +2284,10 @@ loops::over-returns-in-Err-body-clause-exact t c = λ ts k z.
     because (one labelled_part) continues_statement c.args.depth (c.args.token ∷ ts) c.in-Err-body.error _ c.discard_span-in-Err-body.ensures
     (loop_exit.over_body_refused c.args.depth c.args.token ts c.args.names c.args.tokens.now (span_of c.in-Ok.read.0) c.in-Ok.read.1 c.in-Ok.read.2.now c.in-Err-body.error k z c.in-Ok.ensures.exact (omega arith) c.in-Err-body.ensures.exact)
 
-pub loops::clause-returns-in_ok-header-in-Ok-clause-exact : goal.loops::clause-returns-in_ok-header-in-Ok-clause-exact
-loops::clause-returns-in_ok-header-in-Ok-clause-exact t c = λ place s many few.
+pub loops::clause-returns-in-Ok-clause-exact : goal.loops::clause-returns-in-Ok-clause-exact
+loops::clause-returns-in-Ok-clause-exact t c = λ place s many few.
     c.closed.ensures.exact c.args.tokens.now place s
-    (subst (λ (h : tree.Header). loop_form.LoopClosed c.args.depth c.args.tokens.now place s.unranged h c.in-Ok.n c.in-Ok.rest.now) (sym c.in_ok-header-in-Ok.ensures)
-    (loop_form.from _ c.in-Ok.n c.in-Ok.rest.now many few (header.declared c.in-Declared.ensures.0 (decl c.in-Ok.d) c.in-Ok.n c.in-Ok.rest.now (loop_head.some_left c.args.depth s.unranged many) c.in-Declared.ensures.1 c.in-Ok.ensures.exact)))
+    (loop_form.from _ c.in-Ok.n c.in-Ok.rest.now many few (header.declared c.in-Declared.ensures.0 (decl c.in-Ok.d) c.in-Ok.n c.in-Ok.rest.now (loop_head.some_left c.args.depth s.unranged many) c.in-Declared.ensures.1 c.in-Ok.ensures.exact))
 
 pub loops::clause-returns-in-Err-clause-exact : goal.loops::clause-returns-in-Err-clause-exact
 loops::clause-returns-in-Err-clause-exact t c = λ place s many few. loop_head.declared_refused c.args.depth c.args.token c.args.tokens.now place c.in-Declared.ensures.0 c.in-Err.error s many c.in-Declared.ensures.1 c.in-Err.ensures.exact
@@ -2311,12 +2295,11 @@ loops::clause-returns-in-Err-clause-exact t c = λ place s many few. loop_head.d
 pub loops::clause-returns-then-depth-eq1-clause-exact : goal.loops::clause-returns-then-depth-eq1-clause-exact
 loops::clause-returns-then-depth-eq1-clause-exact t c = λ place s many few. loop_head.listed_over c.args.depth c.args.token c.args.tokens.now place c.in-Listed.ensures.0 c.run_over.result s c.if-depth-eq1.true c.in-Listed.ensures.1 c.run_over.ensures
 
-pub loops::clause-returns-in_ok-header-in-Ok-simple-clause-exact : goal.loops::clause-returns-in_ok-header-in-Ok-simple-clause-exact
-loops::clause-returns-in_ok-header-in-Ok-simple-clause-exact t c = λ place s many few.
+pub loops::clause-returns-in-Ok-simple-clause-exact : goal.loops::clause-returns-in-Ok-simple-clause-exact
+loops::clause-returns-in-Ok-simple-clause-exact t c = λ place s many few.
     let k = loop_head.some_left c.args.depth s.unranged many in
     c.closed-in-Ok-simple.ensures.exact c.args.tokens.now place s
-    (subst (λ (h : tree.Header). loop_form.LoopClosed c.args.depth c.args.tokens.now place s.unranged h c.in-Ok-simple.n c.in-Ok-simple.rest.now) (sym c.in_ok-header-in-Ok-simple.ensures)
-    (loop_form.from _ c.in-Ok-simple.n c.in-Ok-simple.rest.now many few (header.listed c.in-Listed.ensures.0 (stmt c.in-Ok-simple.s) c.in-Ok-simple.n c.in-Ok-simple.rest.now (omega (arith, k)) c.in-Listed.ensures.1 c.in-Ok-simple.ensures.exact)))
+    (loop_form.from _ c.in-Ok-simple.n c.in-Ok-simple.rest.now many few (header.listed c.in-Listed.ensures.0 (stmt c.in-Ok-simple.s) c.in-Ok-simple.n c.in-Ok-simple.rest.now (omega (arith, k)) c.in-Listed.ensures.1 c.in-Ok-simple.ensures.exact))
 
 pub loops::clause-returns-in-Err-simple-clause-exact : goal.loops::clause-returns-in-Err-simple-clause-exact
 loops::clause-returns-in-Err-simple-clause-exact t c = λ place s many few.
@@ -2330,11 +2313,10 @@ loops::clause-returns-in-Ok-level-clause-exact t c = λ place s many few.
 pub loops::clause-returns-in-Err-level-clause-exact : goal.loops::clause-returns-in-Err-level-clause-exact
 loops::clause-returns-in-Err-level-clause-exact t c = λ place s many few. loop_head.single_refused c.args.depth c.args.token c.args.tokens.now place c.in-Single.ensures.0 c.in-Err-level.error s many few c.in-Single.ensures.1 c.in-Err-level.ensures.exact
 
-pub loops::list-returns-in_ok-header-in-Ok-clause-exact : goal.loops::list-returns-in_ok-header-in-Ok-clause-exact
-loops::list-returns-in_ok-header-in-Ok-clause-exact t c = λ place last s names enough.
+pub loops::list-returns-in-Ok-clause-exact : goal.loops::list-returns-in-Ok-clause-exact
+loops::list-returns-in-Ok-clause-exact t c = λ place last s names enough.
     c.closed.ensures.exact c.args.tokens.now place s
-    (subst (λ (h : tree.Header). loop_form.LoopClosed c.args.depth c.args.tokens.now place s.unranged h c.in-Ok.n c.in-Ok.rest.now) (sym c.in_ok-header-in-Ok.ensures)
-    (loop_form.signs last (stmt c.in-Ok.s) c.in-Ok.n c.in-Ok.rest.now enough names c.in-Ok.ensures.exact))
+    (loop_form.signs last (stmt c.in-Ok.s) c.in-Ok.n c.in-Ok.rest.now enough names c.in-Ok.ensures.exact)
 
 pub loops::list-returns-in-Err-clause-exact : goal.loops::list-returns-in-Err-clause-exact
 loops::list-returns-in-Err-clause-exact t c = λ place last s names enough. loop_head.signs_refused c.args.depth c.args.token c.args.tokens.now place last c.in-Err.error s names enough c.in-Err.ensures.exact
@@ -2344,7 +2326,7 @@ loops::behind_expression-returns-in-None-clause-exact t c = λ ts place p s many
 
 pub loops::behind_expression-returns-then-height-from-clause-exact : goal.loops::behind_expression-returns-then-height-from-clause-exact
 loops::behind_expression-returns-then-height-from-clause-exact t c = λ ts place p s many few z.
-    because (one labelled_part) continues_statement c.args.depth (c.args.token ∷ ts) (stop.Deep (length c.in-Some.found.1.now)) _ c.discard.ensures
+    because (one labelled_part) continues_statement c.args.depth (c.args.token ∷ ts) (stop.Deep (length c.in-Some.found.1.now)) _ c.discard_expr.ensures
     (loop_head.expression_over c.args.depth c.args.token ts place p s (expr c.args.e) c.args.height c.args.tokens.now c.in-Some.found.0 c.in-Some.found.1.now many few z c.in-Some.ensures.is c.in-Some.ensures.on (omega arith))
 
 pub loops::behind_expression-returns-then-same_kind-clause-exact : goal.loops::behind_expression-returns-then-same_kind-clause-exact
@@ -2353,14 +2335,13 @@ loops::behind_expression-returns-then-same_kind-clause-exact t c = λ ts place p
     (loop_head.evaluated_is c.args.depth ts place s.unranged _ _ c.args.height _ c.in-Some.found.1.now (sym c.in_ok-header.ensures) (omega arith)
     (loop_form.evaluated (c.args.depth - 1) p (expr c.args.e) c.args.height c.args.tokens.now c.in-Some.found.0 c.in-Some.found.1.now many few (omega arith) z (omega arith) c.in-Some.ensures.is (c.same_kind.ensures.0 c.if-same_kind.true)))
 
-pub loops::behind_expression-returns-in_ok-header-in-Ok-clause-exact : goal.loops::behind_expression-returns-in_ok-header-in-Ok-clause-exact
-loops::behind_expression-returns-in_ok-header-in-Ok-clause-exact t c = λ ts place p s many few z.
+pub loops::behind_expression-returns-in-Ok-clause-exact : goal.loops::behind_expression-returns-in-Ok-clause-exact
+loops::behind_expression-returns-in-Ok-clause-exact t c = λ ts place p s many few z.
     c.closed.ensures.exact ts place s
-    (subst (λ (h : tree.Header). loop_form.LoopClosed c.args.depth ts place s.unranged h c.in-Ok.n c.in-Ok.rest.now) (sym c.in_ok-header-in-Ok.ensures)
     (loop_form.from _ c.in-Ok.n c.in-Ok.rest.now many few
     (header.begun (c.args.depth - 1) p (expr c.args.e) c.args.height c.args.tokens.now c.in-Some.found.0 c.in-Some.found.1.now (stmt c.in-Ok.s) c.in-Ok.n c.in-Ok.rest.now (omega arith) z (omega arith) c.in-Some.ensures.is
     (goes_behind c.in-Some.found.0.kind c.in-Some.ensures.on (λ e. let bad : true ≡ false = sym (c.same_kind.ensures.1 e) ∙ c.if-same_kind.false in cc))
-    (loop_head.simple_deeper c.args.depth (c.args.depth - 1) ts (Yes (stmt c.in-Ok.s) c.in-Ok.n c.in-Ok.rest.now) (omega arith) (c.in-Ok.ensures.exact ts (lower_found (omega arith) z.found))))))
+    (loop_head.simple_deeper c.args.depth (c.args.depth - 1) ts (Yes (stmt c.in-Ok.s) c.in-Ok.n c.in-Ok.rest.now) (omega arith) (c.in-Ok.ensures.exact ts (lower_found (omega arith) z.found)))))
 
 pub loops::behind_expression-returns-in-Err-clause-exact : goal.loops::behind_expression-returns-in-Err-clause-exact
 loops::behind_expression-returns-in-Err-clause-exact t c = λ ts place p s many few z.
@@ -2370,7 +2351,7 @@ loops::behind_expression-returns-in-Err-clause-exact t c = λ ts place p s many 
 
 pub loops::with_condition-returns-then-height-from-clause-exact : goal.loops::with_condition-returns-then-height-from-clause-exact
 loops::with_condition-returns-then-height-from-clause-exact t c = λ ts place p s many few z ends.
-    because (one labelled_part) continues_statement c.args.depth (c.args.token ∷ ts) c.body_over.result _ c.discard.ensures
+    because (one labelled_part) continues_statement c.args.depth (c.args.token ∷ ts) c.body_over.result _ c.discard_expr.ensures
     (loop_head.while_over c.args.depth c.args.token ts place p s (expr c.args.e) c.args.height c.args.tokens.now c.body_over.result many few z ends (omega arith) c.body_over.ensures)
 
 pub loops::with_condition-returns-in-Ok-clause-exact : goal.loops::with_condition-returns-in-Ok-clause-exact
@@ -2379,7 +2360,7 @@ loops::with_condition-returns-in-Ok-clause-exact t c = λ ts place p s many few 
 
 pub loops::with_condition-returns-in-Err-clause-exact : goal.loops::with_condition-returns-in-Err-clause-exact
 loops::with_condition-returns-in-Err-clause-exact t c = λ ts place p s many few z ends.
-    because (one labelled_part) continues_statement c.args.depth (c.args.token ∷ ts) c.in-Err.error _ c.discard-in-Err.ensures
+    because (one labelled_part) continues_statement c.args.depth (c.args.token ∷ ts) c.in-Err.error _ c.discard_expr-in-Err.ensures
     (loop_head.while_refused c.args.depth c.args.token ts place p s (expr c.args.e) c.args.height c.args.tokens.now c.in-Err.error many few z ends (omega arith) c.in-Err.ensures.exact)
 
 pub loops::closed-returns-in-Ok-clause-exact : goal.loops::closed-returns-in-Ok-clause-exact
@@ -2413,18 +2394,18 @@ loops::steps-returns-else-stands_at-clause-exact t c = loop_exit.condition_refus
 
 pub loops::behind_condition-returns-in-Ok-ending-clause-exact : goal.loops::behind_condition-returns-in-Ok-ending-clause-exact
 loops::behind_condition-returns-in-Ok-ending-clause-exact t c = λ ts z.
-    loop_exit.condition_end c.args.depth ts (maybe c.args.condition) c.args.height c.args.tokens.now c.in-Ok.semicolon c.in-Ok.behind.now (loop_form.end_of c.in-Ok-ending.end) c.in-Ok-ending.n _ c.in-Ok-ending.rest.now z (c.within.ensures.0 c.in-Ok.ensures.within) c.in-Ok.ensures.is c.in-Ok.ensures.kind c.in-Ok-ending.ensures.exact
+    loop_exit.condition_end c.args.depth ts (maybe_expr c.args.condition) c.args.height c.args.tokens.now c.in-Ok.semicolon c.in-Ok.behind.now (loop_form.end_of c.in-Ok-ending.end) c.in-Ok-ending.n _ c.in-Ok-ending.rest.now z (c.within.ensures.0 c.in-Ok.ensures.within) c.in-Ok.ensures.is c.in-Ok.ensures.kind c.in-Ok-ending.ensures.exact
     (omega (arith, c.max.ensures))
 
 pub loops::behind_condition-returns-in-Err-ending-clause-exact : goal.loops::behind_condition-returns-in-Err-ending-clause-exact
 loops::behind_condition-returns-in-Err-ending-clause-exact t c = λ ts z.
-    because steps_line continues_statement c.args.depth ts c.in-Err-ending.error _ c.discard_value.ensures
-    (loop_exit.condition_end_refused c.args.depth ts (maybe c.args.condition) c.args.height c.args.tokens.now c.in-Ok.semicolon c.in-Ok.behind.now c.in-Err-ending.error z (c.within.ensures.0 c.in-Ok.ensures.within) c.in-Ok.ensures.is c.in-Ok.ensures.kind c.in-Err-ending.ensures.exact)
+    because steps_line continues_statement c.args.depth ts c.in-Err-ending.error _ c.discard_optional_expr.ensures
+    (loop_exit.condition_end_refused c.args.depth ts (maybe_expr c.args.condition) c.args.height c.args.tokens.now c.in-Ok.semicolon c.in-Ok.behind.now c.in-Err-ending.error z (c.within.ensures.0 c.in-Ok.ensures.within) c.in-Ok.ensures.is c.in-Ok.ensures.kind c.in-Err-ending.ensures.exact)
 
 pub loops::behind_condition-returns-in-Err-clause-exact : goal.loops::behind_condition-returns-in-Err-clause-exact
 loops::behind_condition-returns-in-Err-clause-exact t c = λ ts z.
-    because steps_line continues_statement c.args.depth ts c.in-Err.error _ c.discard_value-in-Err.ensures
-    (loop_exit.condition_unclosed c.args.depth ts (maybe c.args.condition) c.args.height c.args.tokens.now c.in-Err.error c.within.result z (loop_head.not_within c.args.height c.args.depth c.within.result c.within.ensures.1) c.in-Err.ensures.refused)
+    because steps_line continues_statement c.args.depth ts c.in-Err.error _ c.discard_optional_expr-in-Err.ensures
+    (loop_exit.condition_unclosed c.args.depth ts (maybe_expr c.args.condition) c.args.height c.args.tokens.now c.in-Err.error c.within.result z (loop_head.not_within c.args.height c.args.depth c.within.result c.within.ensures.1) c.in-Err.ensures.refused)
 
 pub loops::ending-returns-in-Ok-clause-exact : goal.loops::ending-returns-in-Ok-clause-exact
 loops::ending-returns-in-Ok-clause-exact t c = c.behind_step.ensures.exact c.args.tokens.now c.in-Ok.ensures.exact c.in-Ok.ensures.shorter

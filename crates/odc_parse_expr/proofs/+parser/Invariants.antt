@@ -1,28 +1,27 @@
-use Rattle.std.proofs.Common.{◌≡◌, ◌<◌, ◌≤◌, ◌+◌, length, true, ℕ, suc, ◌*◌, max, List}
+use Rattle.std.proofs.Common.{◌≡◌, ◌<◌, ◌≤◌, ◌+◌, length, true, suc, ◌*◌, max, List}
 use Rattle.odc_syntax.specs.Grammar.{chains, inside}
-use Rattle.odc_syntax.specs.View.{expr}
-use Rattle.odc_parse_base.specs.Parts.{ClosesArguments}
-use Rattle.odc_parse_base.specs.Sets.{weight, continues}
-use Rattle.odc_parse_base.proofs.ChainLemmas.{ChainAt, Operators}
-use Rattle.odc_parse_base.proofs.PostfixEnds.{PostfixTo}
-use Rattle.odc_parse_base.proofs.ArgumentAnswers.{ArgumentsAt}
+use Rattle.odc_syntax.specs.View.{expr, span_of}
+use Rattle.odc_lookahead.specs.Parts.{ClosesArguments}
+use Rattle.odc_lookahead.specs.Sets.{weight, continues}
+use Rattle.odc_lookahead.proofs.expr.ChainLemmas.{ChainAt, Operators}
+use Rattle.odc_lookahead.proofs.expr.PostfixEnds.{PostfixTo}
+use Rattle.odc_lookahead.proofs.expr.ArgumentAnswers.{ArgumentsAt}
 use Rattle.odc_syntax.specs.Derives.{StartsWithout}
 use Rattle.odc_syntax.specs.declared.token.TokenKind.TheVariants as kind
-use Rattle.odc_parse_base.specs.TypeParts.{fields_line, types_line, enumerators_line, named_line, bare_line}
-use Rattle.odc_parse_base.proofs.ListAnswers.{ListAt}
-use Rattle.odc_parse_base.proofs.TypeLists.{field_list, type_list, enumerator_list, named_list, bare_list}
+use Rattle.odc_lookahead.specs.TypeParts.{fields_line, types_line, enumerators_line, named_line, bare_line}
+use Rattle.odc_lookahead.proofs.separated.ListAnswers.{ListAt}
+use Rattle.odc_lookahead.proofs.types.TypeLists.{field_list, type_list, enumerator_list, named_list, bare_list}
 use Rattle.odc_syntax.specs.declared.token.Token.{Token}
 use Rattle.odc_syntax.specs.declared.grammar.Level.TheVariants.{Or}
 use Rattle.odc_syntax.specs.Grammar as g
-use Rattle.odc_parse_base.specs.Exact.{Found, one}
-use Rattle.odc_parse_base.specs.Statements.{BeginsWith}
-use Rattle.odc_parse_base.proofs.ExprsLemmas.{ExprsAt}
-use Rattle.odc_parse_base.proofs.StmtsLemmas.{StmtsAt}
+use Rattle.odc_lookahead.specs.Exact.{Found, one}
+use Rattle.odc_lookahead.specs.Statements.{BeginsWith}
+use Rattle.odc_lookahead.proofs.expr.ExprsLemmas.{ExprsAt}
+use Rattle.odc_lookahead.proofs.stmts.StmtsLemmas.{StmtsAt}
 use Rattle.odc_syntax.specs.declared.grammar.Mode.TheVariants.{Free}
-use Rattle.odc_nodes.specs.SwitchViews.{span_of}
-use Rattle.odc_parse_base.specs.SwitchSets.{continues_span}
-use Rattle.odc_parse_base.proofs.CasesLemmas.{CasesAt}
-use Rattle.odc_parse_base.proofs.ItemLemmas.{ItemsAt}
+use Rattle.odc_lookahead.specs.SwitchSets.{continues_span}
+use Rattle.odc_lookahead.proofs.switches.CasesLemmas.{CasesAt}
+use Rattle.odc_lookahead.proofs.switches.ItemLemmas.{ItemsAt}
 use Rattle.odc_parse_expr.proofs.+parser.Given as goal
 
 abbrev pub decreases-binary::level : goal.decreases-binary::level

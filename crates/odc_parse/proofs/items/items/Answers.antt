@@ -1,8 +1,8 @@
 use Rattle.std.proofs.Common.{◌≡◌, ◌∙◌, sym, true, false, arith}
 use Rattle.odc_syntax.specs.Grammar as g
 use Rattle.odc_syntax.specs.View.{decl}
-use Rattle.odc_parse_base.specs.Exact.{one}
-use Rattle.odc_parse_base.proofs.Carrying.{over_by}
+use Rattle.odc_lookahead.specs.Exact.{one}
+use Rattle.odc_lookahead.proofs.reading.Carrying.{over_by}
 use Rattle.odc_parse.specs.Read.{starts_item}
 use Rattle.odc_parse.proofs.FileLemmas.{because, items_start, items_refused, items_next, items_unclosed, items_end}
 use Rattle.odc_parse.proofs.items.items.Goals as goal

@@ -1,8 +1,8 @@
 use Rattle.std.proofs.Common.{◌≡◌, ◌∙◌, sym, subst, true, false, List}
 use Rattle.odc_syntax.specs.declared.token.Token.{Token}
 use Rattle.odc_syntax.specs.View.{decls}
-use Rattle.odc_parse_base.specs.Exact.{Exact, Found, one}
-use Rattle.odc_parse_base.specs.Read.{refused}
+use Rattle.odc_lookahead.specs.Exact.{Exact, Found, one}
+use Rattle.odc_lookahead.specs.Read.{refused}
 use Rattle.odc_parse.specs.File.{file_of}
 use Rattle.odc_parse.specs.Read.{starts_item}
 use Rattle.odc_parse.proofs.FileLemmas.{file_is, rest_fault, unread_fault, none_left, some_left}

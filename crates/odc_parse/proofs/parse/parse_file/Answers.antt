@@ -1,7 +1,7 @@
 use Rattle.std.proofs.Common.{◌≡◌, ap, subst, List, length}
 use Rattle.odc_text.specs.declared.place.Place.{Place}
 use Rattle.odc_syntax.specs.declared.token.Token.{Token}
-use Rattle.odc_parse_base.specs.Refused.{FirstRefused, NoneRefused}
+use Rattle.odc_lookahead.specs.Refused.{FirstRefused, NoneRefused}
 use Rattle.odc_parse.specs.File.{refused}
 use Rattle.odc_parse.proofs.FileLemmas.{fault_at}
 use Rattle.odc_parse.proofs.parse.parse_file.Goals as goal

@@ -1,4 +1,4 @@
-use Rattle.odc_parse_base.proofs.ArrayAnswers.{parametric_unnamed, parametric_refused, parametric_answer}
+use Rattle.odc_lookahead.proofs.types.ArrayAnswers.{parametric_unnamed, parametric_refused, parametric_answer}
 use Rattle.odc_parse_expr.proofs.arrays.parametric.Goals as goal
 
 pub returns-in-Err-clause-exact : goal.returns-in-Err-clause-exact

@@ -1,5 +1,5 @@
 use Rattle.std.proofs.Common.{arith, ap, length}
-use Rattle.odc_parse_base.proofs.NameLemmas.{names_start, names_again, names_answer, names_refused}
+use Rattle.odc_lookahead.proofs.separated.NameLemmas.{names_start, names_again, names_answer, names_refused}
 use Rattle.odc_parse_expr.proofs.declaration.names.Goals as goal
 
 pub names-init : goal.names-init

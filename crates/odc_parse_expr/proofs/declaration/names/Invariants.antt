@@ -1,5 +1,5 @@
 use Rattle.std.proofs.Common.{ℕ, ◌≤◌, length}
-use Rattle.odc_parse_base.proofs.NameLemmas.{NamesAt}
+use Rattle.odc_lookahead.proofs.separated.NameLemmas.{NamesAt}
 use Rattle.odc_parse_expr.proofs.declaration.names.Given as goal
 
 abbrev pub invariant-names : goal.invariant-names

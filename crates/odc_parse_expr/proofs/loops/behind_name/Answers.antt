@@ -1,6 +1,6 @@
 use Rattle.std.proofs.Common.{sym, subst}
 use Rattle.odc_syntax.specs.declared.tree.RangeNames.{RangeNames}
-use Rattle.odc_parse_base.specs.LoopStarts.{Ranged}
+use Rattle.odc_lookahead.specs.LoopStarts.{Ranged}
 use Rattle.odc_parse_expr.proofs.LoopFronts.{range_one, range_two, more_front, one_front}
 use Rattle.odc_parse_expr.proofs.loops.behind_name.Goals as goal
 

@@ -1,9 +1,8 @@
-use Rattle.std.proofs.Common.{◌≡◌}
 use Rattle.odc_syntax.specs.declared.grammar.Mode.TheVariants.{Free}
 use Rattle.odc_syntax.specs.Grammar as g
 use Rattle.odc_syntax.specs.View.{decl}
-use Rattle.odc_parse_base.specs.StatementSets.{continues_declaration}
-use Rattle.odc_parse_base.proofs.BlameLemmas.{read_from, cut_from, stopped_from}
+use Rattle.odc_lookahead.specs.StatementSets.{continues_declaration}
+use Rattle.odc_lookahead.proofs.faults.BlameLemmas.{read_from, cut_from, stopped_from}
 use Rattle.odc_parse_expr.proofs.parse.parse_decl.Goals as goal
 
 pub returns-in-Ok-end_of-clause-read : goal.returns-in-Ok-end_of-clause-read

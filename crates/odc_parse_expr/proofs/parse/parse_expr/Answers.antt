@@ -1,10 +1,9 @@
-use Rattle.std.proofs.Common.{◌≡◌}
 use Rattle.odc_syntax.specs.declared.grammar.Mode.TheVariants.{Free}
 use Rattle.odc_syntax.specs.declared.grammar.Level.TheVariants.{Or}
 use Rattle.odc_syntax.specs.Grammar as g
 use Rattle.odc_syntax.specs.View.{expr}
-use Rattle.odc_parse_base.specs.Sets.{continues}
-use Rattle.odc_parse_base.proofs.BlameLemmas.{read_from, cut_from, stopped_from}
+use Rattle.odc_lookahead.specs.Sets.{continues}
+use Rattle.odc_lookahead.proofs.faults.BlameLemmas.{read_from, cut_from, stopped_from}
 use Rattle.odc_parse_expr.proofs.parse.parse_expr.Goals as goal
 
 pub returns-in-Ok-end_of-clause-read : goal.returns-in-Ok-end_of-clause-read
@@ -14,8 +13,8 @@ returns-in-Ok-end_of-clause-read c =
 
 pub returns-in-Err-end_of-clause-not_read : goal.returns-in-Err-end_of-clause-not_read
 returns-in-Err-end_of-clause-not_read c =
-    cut_from (g.expression Free) (continues Or Free) c.args.t.now.list.items c.tokens_from.result.now c.args.t.now.end c.args.from c.in-Ok.depth (expr c.in-Ok.tree) c.in-Ok.rest.now c.in-Err-end_of.fault c.discard.result
-    c.requires c.tokens_from.ensures c.discard.ensures c.in-Ok.ensures.exact c.in-Err-end_of.ensures.cut
+    cut_from (g.expression Free) (continues Or Free) c.args.t.now.list.items c.tokens_from.result.now c.args.t.now.end c.args.from c.in-Ok.depth (expr c.in-Ok.tree) c.in-Ok.rest.now c.in-Err-end_of.fault c.discard_expr.result
+    c.requires c.tokens_from.ensures c.discard_expr.ensures c.in-Ok.ensures.exact c.in-Err-end_of.ensures.cut
 
 pub returns-in-Err-clause-not_read : goal.returns-in-Err-clause-not_read
 returns-in-Err-clause-not_read c =

@@ -1,5 +1,5 @@
 use Rattle.std.proofs.Common.{◌∙◌, sym}
-use Rattle.odc_parse_base.proofs.RunExits.{labels_at, unlabelled_unnamed, unlabelled_alone, unlabelled_end, unlabelled_other}
+use Rattle.odc_lookahead.proofs.stmts.RunExits.{labels_at, unlabelled_unnamed, unlabelled_alone, unlabelled_end, unlabelled_other}
 use Rattle.odc_parse_expr.proofs.runs.label.Goals as goal
 
 pub returns-in-None-clause-none : goal.returns-in-None-clause-none

@@ -1,5 +1,5 @@
-use Rattle.odc_parse_base.specs.Headers.{unnamed}
-use Rattle.odc_parse_base.proofs.RunExits.{run_listed, run_alone}
+use Rattle.odc_lookahead.specs.Headers.{unnamed}
+use Rattle.odc_lookahead.proofs.stmts.RunExits.{run_listed, run_alone}
 use Rattle.odc_parse_expr.proofs.runs.names_in.Goals as goal
 
 pub returns-in-Ok : goal.returns-in-Ok

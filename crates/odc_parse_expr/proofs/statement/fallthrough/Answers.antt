@@ -1,10 +1,9 @@
-use Rattle.std.proofs.Common.{arith, ◌∷◌, ◌-◌, refl, sym, ap}
-use Rattle.odc_syntax.specs.View.{stmt}
-use Rattle.odc_parse_base.specs.declared.statement_form.StatementForm.TheVariants as form
-use Rattle.odc_parse_base.proofs.Answering.{answer_is}
-use Rattle.odc_parse_base.proofs.Depths.{found_depth}
-use Rattle.odc_parse_base.proofs.StatementLemmas.{fallthrough_answer}
-use Rattle.odc_parse_base.proofs.StatementBounds.{statement_zero}
+use Rattle.std.proofs.Common.{arith, ◌∷◌, ◌-◌, refl, sym}
+use Rattle.odc_lookahead.specs.declared.statement_form.StatementForm.TheVariants as form
+use Rattle.odc_lookahead.proofs.reading.Answering.{answer_is}
+use Rattle.odc_lookahead.proofs.reading.Depths.{found_depth}
+use Rattle.odc_lookahead.proofs.stmts.StatementLemmas.{fallthrough_answer}
+use Rattle.odc_lookahead.proofs.stmts.StatementBounds.{statement_zero}
 use Rattle.odc_parse_expr.proofs.statement.fallthrough.Goals as goal
 
 pub returns-then-depth-eq0-clause-exact : goal.returns-then-depth-eq0-clause-exact
@@ -13,4 +12,4 @@ returns-then-depth-eq0-clause-exact c = λ f. statement_zero c.args.depth form.F
 pub returns-clause-exact : goal.returns-clause-exact
 returns-clause-exact c = λ f.
     found_depth (c.args.depth - 1) (omega arith)
-    (answer_is (sym (ap stmt c.leaf.ensures)) refl (fallthrough_answer (c.args.depth - 1) c.args.token c.args.behind.now f))
+    (answer_is (sym c.in_ok-leaf.ensures) refl (fallthrough_answer (c.args.depth - 1) c.args.token c.args.behind.now f))

@@ -1,5 +1,5 @@
 use Rattle.std.proofs.Common.{◌∙◌}
-use Rattle.odc_parse_base.proofs.SwitchAnswers.{head_simple}
+use Rattle.odc_lookahead.proofs.switches.SwitchAnswers.{head_simple}
 use Rattle.odc_parse_expr.proofs.switches.goes_on_head.Goals as goal
 
 pub returns-in_default : goal.returns-in_default

@@ -1,0 +1,19 @@
+-- Expressions: operators, operands, suffixes, arguments.
+pub mod UnaryLemmas
+pub mod BinaryLemmas
+pub mod ChainLemmas
+pub mod FormLemmas
+pub mod PostfixLemmas
+pub mod SuffixLemmas
+pub mod BracketLemmas
+pub mod TypeStarts
+pub mod EndChains
+pub mod PostfixEnds
+pub mod OperandLemmas
+pub mod WholeLemmas
+pub mod CutLemmas
+pub mod ArgLemmas
+pub mod ArgsLemmas
+pub mod ArgumentAnswers
+pub mod ExprsLemmas
+pub mod SuffixAnswers

@@ -1,8 +1,0 @@
-use Rattle.odc_parse_base.proofs.Worked.{differences_derive, differences_group_to_the_left}
-use Rattle.odc_parse_base.proofs.laws.differences_group_to_the_left.Goals as goal
-
-pub returns-clause-is : goal.returns-clause-is
-returns-clause-is c = differences_derive
-
-pub returns-clause-only : goal.returns-clause-only
-returns-clause-only c = differences_group_to_the_left

@@ -1,5 +1,0 @@
-use Rattle.odc_parse_base.specs.Refused.{NoneRefused}
-use Rattle.odc_parse_base.proofs.refused.first_refused_between.Given as goal
-
-abbrev pub invariant-loop-at : goal.invariant-loop-at
-invariant-loop-at l = NoneRefused l.tokens l.from l.at
