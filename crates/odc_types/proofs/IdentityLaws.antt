@@ -132,7 +132,7 @@ node_whole f n nodes.rune h below = tt
 node_whole f n nodes.text h below = tt
 node_whole f n nodes.rawptr h below = tt
 
-get_end : {A : Type 0} (xs : List A) (x : A) → slice_get (xs ++ (x ∷ [])) (length xs) ≡ Some x
+pub get_end : {A : Type 0} (xs : List A) (x : A) → slice_get (xs ++ (x ∷ [])) (length xs) ≡ Some x
 get_end [] x = refl
 get_end (y ∷ xs) x = get_end xs x
 

@@ -223,6 +223,17 @@ enough types k t l e = enough_by (settles_in_time types)
           ap (λ (f : ℕ → Option Layout). f t) (sym to_all ∙ to_k) ∙ e)
     ]
 
+-- what was told at the last level is what one more level tells
+pub settled_of : (types : List Node) → layout types (length types) ≡ layout types (suc (length types))
+settled_of types =
+    let s = settles_in_time types in
+    let within = s.1 in
+    sym (settled_after types (length types - s.0) s.0 (length types) (omega arith) s.2) ∙ settled_after types (suc (length types) - s.0) s.0 (suc (length types)) (omega arith) s.2
+
+-- the layout of a type is that of its node over the layouts of its parts
+pub layout_unfolds : (types : List Node) (t : ℕ) (n : Node) → slice_get types t ≡ Some n → layout_of types t ≡ layout_of_node types (layout_of types) n
+layout_unfolds types t n e = ap (λ (f : ℕ → Option Layout). f t) (settled_of types) ∙ ap (λ o. option_and_then (layout_of_node types (layout_of types)) o) e
+
 pub get_front : {A : Type 0} (xs ys : List A) (t : ℕ) (x : A) → slice_get xs t ≡ Some x → slice_get (xs ++ ys) t ≡ Some x
 get_front [] ys t x e = cc
 get_front (y ∷ xs) ys zero x e = e

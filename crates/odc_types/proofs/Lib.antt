@@ -1,5 +1,7 @@
 pub mod WidthLemmas
 pub mod MeasureLemmas
-pub mod IdentityLemmas
 pub mod LayoutLaws
 pub mod IdentityLaws
+pub mod KeyLemmas
+pub mod KeyTests
+pub mod InternedLaws

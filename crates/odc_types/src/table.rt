@@ -1,32 +1,47 @@
-ghost use Rattle.std.specs.Prelude.{◌≡◌, ℕ, [], ◌∷◌, ◌++◌, ◌+◌, ◌<◌, ◌≤◌, ◌^◌, ◌==◌, ◌↔◌, length, slice_get, slice_set, Some, IfSome, IfNone, IfOk, OnOk, OnErr, IsTrue};
+ghost use Rattle.std.specs.Prelude.{◌≡◌, ℕ, [], ◌∷◌, ◌++◌, ◌+◌, ◌<◌, ◌≤◌, ◌^◌, ◌==◌, ◌↔◌, ◌⊎◌, length, slice_get, slice_set, Some, IfSome, IfNone, IfOk, OnOk, OnErr, IsTrue};
 ghost use Rattle.odc_types.specs.Nodes.{node, nodes};
 ghost use Rattle.odc_types.specs.Parts.{HasPartsBelow, IsUndefined};
-ghost use Rattle.odc_types.specs.Identity.{identity_of};
-ghost use Rattle.odc_types.specs.Layout.{layout, size as bytes_of, HasSize, size_of, align_of, field_count, offset_of, layout_of};
+ghost use Rattle.odc_types.specs.Identity.{identity_of, identity_of_node};
+ghost use Rattle.odc_types.specs.Keys.{IsKeyOf};
+ghost use Rattle.odc_types.specs.Interned.{IsFresh, IsAt};
+ghost use Rattle.odc_types.specs.Layout.{layout, size as bytes_of, HasSize, size_of, align_of, field_count, offset_of, layout_of, layout_of_node};
 ghost use Rattle.odc_types.specs.Clipped.{IsMeasured};
 
-use crate::identity::same_within;
+use crate::index::{found, put};
+use crate::key::{Key, key_of};
 use crate::measure::{Extent, measured, offset_within};
 use crate::ty::{Ty, TyId};
+use indexmap::IndexSet;
 use std::alloc::{AllocError, Global};
 use std::marker::Model;
 
-/// Types by number. Each has its parts by number, which lead to types of the same table.
+/// The number of the type at an index. There are as many numbers as a `u32` has.
+fn numbered(index: usize) -> Result<TyId, AllocError>
+    ensures { IfOk result (λ id. id.index ≡ index) }
+{
+    match u32::try_from(index) {
+        Ok(index) => Ok(TyId { index }),
+        Err(_) => Err(AllocError),
+    }
+}
+
+/// Types by number, each once. The parts of a type are types of the same table, by their numbers.
 #[derive(Drop)]
 pub struct TypeTable {
     types: Vec<Ty>,
+    keys: IndexSet<Key>,
 }
 
 impl Model for TypeTable {
     ghost use Rattle.std.specs.Prelude.{List};
     ghost use Rattle.odc_types.specs.Nodes.{Node, nodes};
-    ghost use Rattle.odc_types.specs.Identity.{IsWholeTable};
+    ghost use Rattle.odc_types.specs.Interned.{IsInterned};
 
     ghost Value = { List Node };
 
     ghost view = { λ t. nodes t.types.items };
 
-    ghost invariant = { λ t. IsWholeTable (nodes t.types.items) };
+    ghost invariant = { λ t. IsInterned t.keys.keys (nodes t.types.items) };
 }
 
 impl TypeTable {
@@ -36,24 +51,52 @@ impl TypeTable {
     {
         Ok(TypeTable {
             types: Vec::new(alloc),
+            keys: IndexSet::new(alloc),
         })
     }
 
-    /// Adds a type. Earlier types keep their numbers.
+    /// The number of a type. A type that the table has keeps its number, and the table stays; another one is added.
     pub fn add(&mut self, t: Ty) -> Result<TyId, AllocError>
         requires { HasPartsBelow (length self.old) (node t) }
-        ensures number { IfOk result (λ id. id.index ≡ length self.old) }
-        ensures ok { OnOk result (self.new ≡ self.old ++ node t ∷ []) }
-        ensures len { OnOk result (length self.new ≡ length self.old + 1) }
+        ensures within { IfOk result (λ id. id.index < length self.new) }
+        ensures identity { IfOk result (λ id. identity_of self.new id.index ≡ identity_of_node (identity_of self.old) (node t)) }
+        ensures known { IfOk result (λ id. (u : ℕ) → u < length self.old → identity_of self.old u ≡ identity_of_node (identity_of self.old) (node t) → (id.index ≡ u) × (self.new ≡ self.old)) }
+        ensures added { IfOk result (λ id. (id.index < length self.old × (self.new ≡ self.old)) ⊎ ((id.index ≡ length self.old) × (self.new ≡ self.old ++ node t ∷ []))) }
         ensures identities { (u : ℕ) → u < length self.old → identity_of self.new u ≡ identity_of self.old u }
         ensures layouts { (u : ℕ) → HasSize self.old u → layout_of self.new u ≡ layout_of self.old u }
         ensures err { OnErr result (self.new ≡ self.old) }
     {
-        let Ok(index) = u32::try_from(self.types.len()) else {
-            return Err(AllocError);
-        };
+        let key = key_of(*self.types.allocator(), &t)?;
+        match self.find(&key) {
+            Some(index) => numbered(index),
+            None => self.append(key, t),
+        }
+    }
+
+    /// Where the type with a key stands.
+    fn find(&self, key: &Key) -> Option<usize>
+        ensures some { IfSome result (λ i. (n : _) → IsKeyOf key.now n → IsAt self.now i n) }
+        ensures none { IfNone result ((n : _) → IsKeyOf key.now n → IsFresh self.now n) }
+    {
+        found(&self.keys, key)
+    }
+
+    /// Adds a type that the table doesn't have.
+    fn append(&mut self, key: Key, t: Ty) -> Result<TyId, AllocError>
+        requires below { HasPartsBelow (length self.old) (node t) }
+        requires key { IsKeyOf key (node t) }
+        requires fresh { IsFresh self.old (node t) }
+        ensures number { IfOk result (λ id. id.index ≡ length self.old) }
+        ensures ok { OnOk result (self.new ≡ self.old ++ node t ∷ []) }
+        ensures err { OnErr result (self.new ≡ self.old) }
+    {
+        let id = numbered(self.types.len())?;
         self.types.push(t)?;
-        Ok(TyId { index })
+        if let Err(refused) = put(&mut self.keys, key) {
+            self.types.pop();
+            return Err(refused);
+        }
+        Ok(id)
     }
 
     /// Gives a struct, union, enum or distinct type, which was added without its parts, these parts. `parts` is the
@@ -71,9 +114,10 @@ impl TypeTable {
         Ok(())
     }
 
-    /// The number of types.
+    /// The number of types. No two of them are one.
     pub fn len(&self) -> usize
-        ensures { result ≡ length self.now }
+        ensures len { result ≡ length self.now }
+        ensures once { (a b : ℕ) → a < length self.now → b < length self.now → identity_of self.now a ≡ identity_of self.now b → a ≡ b }
     {
         self.types.len()
     }
@@ -88,7 +132,10 @@ impl TypeTable {
     /// The type of a number.
     pub fn get(&self, t: TyId) -> &Ty
         requires { t.index < length self.now }
-        ensures { slice_get self.now t.index ≡ Some (node result.now) }
+        ensures node { slice_get self.now t.index ≡ Some (node result.now) }
+        ensures parts { HasPartsBelow (length self.now) (node result.now) }
+        ensures identity { identity_of self.now t.index ≡ identity_of_node (identity_of self.now) (node result.now) }
+        ensures layout { layout_of self.now t.index ≡ layout_of_node self.now (layout_of self.now) (node result.now) }
     {
         &self.types[t.index as usize]
     }
@@ -144,9 +191,11 @@ impl TypeTable {
     pub fn same(&self, a: TyId, b: TyId) -> bool
         requires first { a.index < length self.now }
         requires second { b.index < length self.now }
-        ensures { IsTrue result ↔ (identity_of self.now a.index ≡ identity_of self.now b.index) }
+        ensures identity { IsTrue result ↔ (identity_of self.now a.index ≡ identity_of self.now b.index) }
+        ensures number { IsTrue result ↔ (a.index ≡ b.index) }
     {
-        same_within(self.types.as_slice(), self.types.len(), a, b)
+        let _each_once = self.len();
+        a.index == b.index
     }
 
     /// The extent of a type that has a size.

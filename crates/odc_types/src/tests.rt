@@ -117,6 +117,8 @@ fn a_slice_added_twice_is_one_type(rt: HostRuntime) -> Result<(), AllocError> {
     let again = table.add(Ty::Slice { of: int })?;
     assert!(rt; table.same(first, again));
     assert!(rt; !table.same(first, other));
+    assert_eq!(rt; first.index, again.index);
+    assert_eq!(rt; table.len(), 4);
     let here = table.add(Ty::Distinct {
         name: named(alloc, 3),
         base: Some(int),

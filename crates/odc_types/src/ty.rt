@@ -1,7 +1,7 @@
 use crate::width::Width;
 
 /// The number of a type in a `TypeTable`.
-#[derive(Clone, Copy)]
+#[derive(Clone, Copy, PartialEq, Eq, Hash)]
 pub struct TyId {
     pub index: u32,
 }

@@ -1,8 +1,10 @@
-use Rattle.std.proofs.Common.{ap, ◌∙◌, slice_set, subst, sym}
+use Rattle.std.proofs.Common.{ap, ◌∙◌, slice_set, subst, sym, length}
 use Rattle.std.proofs.lemmas.List.{map-set}
-use Rattle.odc_types.specs.Nodes.{node}
-use Rattle.odc_types.specs.Identity.{IsWholeTable, identity_of}
-use Rattle.odc_types.proofs.IdentityLaws.{identity_defined, whole_defined}
+use Rattle.odc_types.specs.Nodes.{node, nodes}
+use Rattle.odc_types.specs.Identity.{identity_of}
+use Rattle.odc_types.specs.Interned.{IsInterned}
+use Rattle.odc_types.proofs.IdentityLaws.{identity_defined}
+use Rattle.odc_types.proofs.InternedLaws.{interned_defined}
 use Rattle.odc_types.proofs.LayoutLaws.{Grows, keeps_layout, grows_by_parts}
 use Rattle.odc_types.proofs.table.TypeTable.define.Goals as goal
 
@@ -21,6 +23,7 @@ returns-clause-identities c = λ u inside.
 
 pub invariant_of-self : goal.invariant_of-self
 invariant_of-self c =
+    let keys = c.self.inside.keys.keys in
     let new = map-set node c.self.inside.types.items c.args.t.index c.args.parts ∙ ap (λ l. slice_set l c.args.t.index (node c.args.parts)) c.self.view_is in
-    let table : IsWholeTable c.args.self.now = subst IsWholeTable c.self.view_is c.self.invariant in
-    subst IsWholeTable (sym new) (whole_defined c.args.self.now c.args.t.index (node c.args.parts) table c.requires.undefined)
+    let table : IsInterned keys c.args.self.now = subst (IsInterned keys) c.self.view_is c.self.invariant in
+    subst (IsInterned keys) (sym new) (interned_defined keys c.args.self.now c.args.t.index (node c.args.parts) table c.requires.below c.requires.undefined)
