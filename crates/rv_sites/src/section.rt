@@ -1,0 +1,6 @@
+//! The bytes of the two sections, and reading them.
+
+pub mod check;
+mod copy;
+pub mod view;
+pub mod write;
