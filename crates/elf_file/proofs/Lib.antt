@@ -1,0 +1,2 @@
+-- 1 the first answer
+pub mod First
