@@ -1,21 +1,18 @@
 -- The log and the cost only grow.
-use Rattle.std.proofs.Common.{◌≡◌, ℕ, zero, suc, Bool, true, false, List, [], ◌∷◌, ◌++◌, ap, sym, ◌∙◌, refl, subst, arith}
-use Rattle.std.specs.Prelude.{ℤ, Option, Some, None, ◌+◌, ◌≤◌, if◌then◌else◌, nat_le, slice_get}
+use Rattle.std.proofs.Common.{◌≡◌, ℕ, zero, suc, Bool, true, false, [], ◌++◌, ap, sym, ◌∙◌, refl, subst, arith}
+use Rattle.std.specs.Prelude.{Option, Some, None, if◌then◌else◌, nat_le}
 use Rattle.std.proofs.lemmas.List.{append_assoc, append-nil}
-use Rattle.odc_program.specs.Run.{Place, End, Entry, going, Res, ok, stop, pure, halt, then_by}
-use Rattle.odc_program.specs.Bytes.{Block, Pointer, to, Value}
-use Rattle.odc_program.specs.Memory.{Memory, load, store}
-use Rattle.odc_program.specs.Tree as t
-use Rattle.odc_program.specs.Parts as p
+use Rattle.odc_text.specs.declared.place.Place.{Place}
+use Rattle.odc_program.specs.Run.{Res, ok, stop, pure, then_by}
+use Rattle.odc_program.specs.Bytes.{Block, to}
+use Rattle.odc_program.specs.Memory.{Memory, load, store, fits, writable}
+use Rattle.odc_program.specs.Program as t
+use Rattle.odc_program.specs.State as p
 use Rattle.odc_program.specs.Source as s
+use Rattle.odc_program.specs.Laws.{Grown, GrownTo}
 use Rattle.odc_program.proofs.Alike as a
-use Rattle.odc_program.proofs.Statements as b
+use Rattle.odc_program.proofs.StatementsAlike as b
 use Rattle.odc_program.proofs.Whole as w
-
-pub record Grown (u v : p.State) : Type 0 where
-  pub more : List (Entry Pointer ℕ)
-  pub log : v.log ≡ u.log ++ more
-  pub cost : u.cost ≤ v.cost
 
 module _ (o : p.State) where
   abbrev S : p.State → p.State → Type 0
@@ -25,34 +22,34 @@ module _ (o : p.State) where
   Stops x u (a.went v) = ⊥
   Stops x u (a.halts_at y v) = (x ≡ y) × S u v
 
-  abbrev After : {A : Type 0} → Res p.Leave p.State A → Type 0
-  After (ok x u) = Grown o u
-  After (stop x u) = Grown o u
-
-  ends_of : {A : Type 0} (x : Res p.Leave p.State A) → After x → a.Ends S Stops x x
+  ends_of : {A : Type 0} (x : Res p.Leave p.State A) → GrownTo o x → a.Ends S Stops x x
   ends_of (ok x u) h = (refl, (refl, h))
   ends_of (stop x u) h = (refl, (refl, h))
 
-  itself : {A : Type 0} (m : p.Do A) → ((u : p.State) → Grown o u → After (m u)) → a.Like S Stops m m
+  itself : {A : Type 0} (m : p.Do A) → ((u : p.State) → Grown o u → GrownTo o (m u)) → a.Like S Stops m m
   itself m k = record { by = λ u v h. subst (λ x. a.Ends S Stops (m u) (m x)) h.0 (ends_of (m u) (k u h.1)) }
 
-  known_after : {A : Type 0} (at : Place) (x : Option A) (u : p.State) → Grown o u → After (p.known at x u)
+  known_after : {A : Type 0} (at : Place) (x : Option A) (u : p.State) → Grown o u → GrownTo o (p.known at x u)
   known_after at (Some x) u h = h
   known_after at None u h = h
 
-  kept_after : (at : Place) (x : Option Memory) (u : p.State) → Grown o u → After (p.keep at x u)
+  kept_after : (at : Place) (x : Option Memory) (u : p.State) → Grown o u → GrownTo o (p.keep at x u)
   kept_after at (Some m) u h = record { more = h.more; log = h.log; cost = h.cost }
   kept_after at None u h = h
 
-  live_after : (at : Place) (x : Option ℕ) (u : p.State) → Grown o u → After (p.live_by at x u)
+  live_after : (at : Place) (x : Option ℕ) (u : p.State) → Grown o u → GrownTo o (p.live_by at x u)
   live_after at (Some n) u h = h
   live_after at None u h = h
 
-  inside_after : (at : Place) (b : Block) (n : ℕ) (x : Bool) (u : p.State) → Grown o u → After ((if x then pure (to b n) else p.stray at) u)
+  inside_after : (at : Place) (b : Block) (n : ℕ) (x : Bool) (u : p.State) → Grown o u → GrownTo o ((if x then pure (to b n) else p.stray at) u)
   inside_after at b n true u h = h
   inside_after at b n false u h = h
 
-  turn_after : (left : ℕ) (u : p.State) → Grown o u → After (p.turn_from left u)
+  room_after : (at : Place) (x : Bool) (u : p.State) → Grown o u → GrownTo o (p.fitting at x u)
+  room_after at true u h = h
+  room_after at false u h = h
+
+  turn_after : (left : ℕ) (u : p.State) → Grown o u → GrownTo o (p.turn_from left u)
   turn_after zero u h = h
   turn_after (suc left) u h = record { more = h.more; log = h.log; cost = omega (arith, h.cost) }
 
@@ -80,19 +77,19 @@ module _ (o : p.State) where
     closes_from = λ n l. itself (p.close_behind n l) (λ u h. record { more = h.more; log = h.log; cost = h.cost });
     inside = λ at b n. itself (p.in_block at b n) (λ u h. inside_after at b n (nat_le n (u.memory.long b)) u h);
     lives = λ at b. itself (p.live_at at b) (λ u h. live_after at (u.memory.size b) u h);
+    rooms = λ at b n k. itself (p.room_at at b n k) (λ u h. room_after at (fits (writable b (u.memory.size b)) n k) u h);
+    inputs = λ n. itself (p.take_input n) (λ u h. record { more = h.more; log = h.log; cost = h.cost });
     turns = itself p.take_turn (λ u h. turn_after u.left u h);
     serials = itself p.next_serial (λ u h. record { more = h.more; log = h.log; cost = h.cost });
   }
 
-  pub grown_after : {A : Type 0} (x : Res p.Leave p.State A) → a.Ends S Stops x x → After x
+  pub grown_after : {A : Type 0} (x : Res p.Leave p.State A) → a.Ends S Stops x x → GrownTo o x
   grown_after (ok x u) h = h.1.1
   grown_after (stop x u) h = h.1.1
 
--- what a program does at a bound only adds to the log and the cost that it began with
-pub run_grows : (z : t.Program) (n : ℕ) (o : p.State) →
-    After o (s.enter n (s.calls_of z n) z.tables (slice_get z.tables.procedures z.main) (slice_get z.bodies z.main) [] (Some z.tables.first) s.stack_end o)
-run_grows z n o = grown_after o _ ((w.runs (S o) (Stops o) (growing o) z n n (same_fuel (Stops o) n)).by o o (refl, record { more = []; log = sym (append-nil o.log); cost = omega arith }))
-  where
-    same_fuel : (T : p.Leave → p.State → a.Tail → Type 0) (n : ℕ) → b.Fuels T n n
-    same_fuel T zero = tt
-    same_fuel T (suc n) = same_fuel T n
+same_fuel : (T : p.Leave → p.State → a.Tail → Type 0) (n : ℕ) → b.Fuels T n n
+same_fuel T zero = tt
+same_fuel T (suc n) = same_fuel T n
+
+pub only_grows : (z : t.Program) (n : ℕ) (o : p.State) → GrownTo o (s.main_run z n o)
+only_grows z n o = grown_after o _ ((w.runs (S o) (Stops o) (growing o) z n n (same_fuel (Stops o) n)).by o o (refl, record { more = []; log = sym (append-nil o.log); cost = omega arith }))

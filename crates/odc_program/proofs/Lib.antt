@@ -1,6 +1,12 @@
+-- 1 one theorem: what the primitives keep, a whole run keeps
 pub mod Alike
-pub mod Statements
+pub mod PlacesAlike
+pub mod OperatorsAlike
+pub mod CallsAlike
+pub mod BuiltinsAlike
+pub mod AllocatingAlike
+pub mod StatementsAlike
 pub mod Whole
+-- 2 its instances
 pub mod Grows
 pub mod Stays
-pub mod Rewrite

@@ -1,16 +1,18 @@
 -- An ended run stays as it is at every greater bound.
-use Rattle.std.proofs.Common.{◌≡◌, ℕ, zero, suc, Bool, true, false, List, [], ◌∷◌, ◌++◌, ap, sym, ◌∙◌, refl, subst, arith}
-use Rattle.std.specs.Prelude.{ℤ, Option, Some, None, ◌+◌, ◌≤◌, if◌then◌else◌, nat_le, slice_get}
-use Rattle.odc_program.specs.Run.{Place, End, exited, checked, strayed, Entry, going, Res, ok, stop, pure, halt, then_by}
-use Rattle.odc_program.specs.Bytes.{Block, Pointer, to, Value}
-use Rattle.odc_program.specs.Memory.{Memory, load, store, open_block, close, close_from}
-use Rattle.odc_program.specs.Tree as t
-use Rattle.odc_program.specs.Parts as p
+use Rattle.std.proofs.Common.{◌≡◌, ℕ, zero, suc, Bool, true, false, List, ◌++◌, ap, sym, ◌∙◌, refl, subst, arith}
+use Rattle.std.specs.Prelude.{Option, Some, None, ◌+◌, ◌≤◌, take, drop, min, length, if◌then◌else◌, nat_le}
+use Rattle.odc_text.specs.declared.place.Place.{Place}
+use Rattle.odc_text.specs.Run.{End, exited, checked, strayed, trapped, going}
+use Rattle.odc_program.specs.Run.{Res, ok, stop, pure, then_by}
+use Rattle.odc_program.specs.Bytes.{Block, to, Value}
+use Rattle.odc_program.specs.Memory.{Memory, load, store, fits, writable, open_block, close, close_from}
+use Rattle.odc_program.specs.Program as t
+use Rattle.odc_program.specs.State as p
 use Rattle.odc_program.specs.Source as s
 use Rattle.odc_program.proofs.Alike as a
-use Rattle.odc_program.proofs.Statements as b
+use Rattle.odc_program.proofs.StatementsAlike as b
 use Rattle.odc_program.proofs.Whole as w
-use Rattle.odc_program.specs.Ends.{SameEnding, HasEnded}
+use Rattle.odc_program.specs.Laws.{HasStopped}
 
 -- the same but for the turns that are left, of which the second has no fewer
 pub record Less (u v : p.State) : Type 0 where
@@ -35,7 +37,9 @@ stays_so (p.ends (exited n)) u (stop z v) f h = h
 stays_so (p.ends (checked c at)) u (ok z v) f h = absurd h
 stays_so (p.ends (checked c at)) u (stop z v) f h = h
 stays_so (p.ends (strayed at)) u (ok z v) f h = absurd h
+stays_so (p.ends (trapped pc)) u (ok z v) f h = absurd h
 stays_so (p.ends (strayed at)) u (stop z v) f h = h
+stays_so (p.ends (trapped pc)) u (stop z v) f h = h
 stays_so p.back u (ok z v) f h = absurd h
 stays_so p.back u (stop z v) f h = h
 
@@ -44,6 +48,7 @@ halts_so (p.ends going) u v h = tt
 halts_so (p.ends (exited n)) u v h = (refl, h)
 halts_so (p.ends (checked c at)) u v h = (refl, h)
 halts_so (p.ends (strayed at)) u v h = (refl, h)
+halts_so (p.ends (trapped pc)) u v h = (refl, h)
 halts_so p.back u v h = (refl, h)
 
 wakes_so : (e : End) (u v : p.State) → Stops (p.ends e) u (a.halts_at p.back v) → Stops (p.ends e) u (a.went v)
@@ -51,6 +56,7 @@ wakes_so going u v h = tt
 wakes_so (exited n) u v h = cc
 wakes_so (checked c at) u v h = cc
 wakes_so (strayed at) u v h = cc
+wakes_so (trapped pc) u v h = cc
 
 backs_so : (u : p.State) (q : a.Tail) → Stops p.back u q → a.IsBack Less u q
 backs_so u (a.went v) h = h
@@ -76,6 +82,24 @@ inside_so : (at : Place) (b : Block) (n : ℕ) (x : Bool) (u v : p.State) → Le
 inside_so at b n true u v h = (refl, h)
 inside_so at b n false u v h = (refl, h)
 
+room_so : (at : Place) (x : Bool) (u v : p.State) → Less u v → a.Ends Less Stops (p.fitting at x u) (p.fitting at x v)
+room_so at true u v h = (refl, h)
+room_so at false u v h = (refl, h)
+
+input_so : (n : ℕ) (u v : p.State) → Less u v → a.Ends Less Stops (p.take_input n u) (p.take_input n v)
+input_so n u v h = (
+  ap (λ x. take n x) h.input,
+  record {
+    memory = h.memory;
+    log = h.log;
+    input = ap (λ x. drop n x) h.input;
+    taken = ap (λ x. u.taken + min n (length x)) h.input ∙ ap (λ x. x + min n (length v.input)) h.taken;
+    cost = h.cost;
+    serial = h.serial;
+    left = h.left;
+  },
+)
+
 turn_so : (l k : ℕ) (u v : p.State) → Less u v → l ≤ k → a.Ends Less Stops (p.turn_from l u) (p.turn_from k v)
 turn_so zero k u v h e = tt
 turn_so (suc l) zero u v h e = absurd (omega (arith, e))
@@ -96,6 +120,8 @@ staying = record {
   closes_from = λ n l. record { by = λ u v h. (refl, record { memory = ap (λ m. close_from m n l) h.memory; log = h.log; input = h.input; taken = h.taken; cost = h.cost; serial = h.serial; left = h.left }) };
   inside = λ at b n. record { by = λ u v h. subst (λ (m : Memory). a.Ends Less Stops (p.in_block at b n u) ((if nat_le n (m.long b) then pure (to b n) else p.stray at) v)) h.memory (inside_so at b n (nat_le n (u.memory.long b)) u v h) };
   lives = λ at b. record { by = λ u v h. subst (λ (m : Memory). a.Ends Less Stops (p.live_at at b u) (p.live_by at (m.size b) v)) h.memory (live_so at (u.memory.size b) u v h) };
+  rooms = λ at b n k. record { by = λ u v h. subst (λ (m : Memory). a.Ends Less Stops (p.room_at at b n k u) (p.fitting at (fits (writable b (m.size b)) n k) v)) h.memory (room_so at (fits (writable b (u.memory.size b)) n k) u v h) };
+  inputs = λ n. record { by = λ u v h. input_so n u v h };
   turns = record { by = λ u v h. turn_so u.left v.left u v h h.left };
   serials = record { by = λ u v h. (h.serial, record { memory = h.memory; log = h.log; input = h.input; taken = h.taken; cost = h.cost; serial = ap (λ x. x + 1) h.serial; left = h.left }) };
 }
@@ -106,18 +132,23 @@ fuels zero (suc m) e = λ u q. tt
 fuels (suc n) zero e = absurd (omega (arith, e))
 fuels (suc n) (suc m) e = fuels n m (omega (arith, e))
 
-same_ending : (x y : Res p.Leave p.State Value) → a.Ends Less Stops x y → HasEnded (s.ending x).end → SameEnding (s.ending x) (s.ending y)
-same_ending (ok x u) (ok y v) h e = record { end = refl; log = h.1.log; taken = h.1.taken; cost = h.1.cost }
+same_at : (e : End) (u v : p.State) → Less u v → s.ending_at e v ≡ s.ending_at e u
+same_at e u v h = λ i. record { end = e; log = sym h.log i; taken = sym h.taken i; cost = sym h.cost i }
+
+same_ending : (x y : Res p.Leave p.State Value) → a.Ends Less Stops x y → HasStopped (s.ending x).end → s.ending y ≡ s.ending x
+same_ending (ok x u) (ok y v) h e = same_at (exited 0) u v h.1
 same_ending (ok x u) (stop y v) h e = absurd h
 same_ending (stop (p.ends going) u) y h e = absurd e
 same_ending (stop p.back u) y h e = absurd e
 same_ending (stop (p.ends (exited n)) u) (ok y v) h e = absurd h
 same_ending (stop (p.ends (checked c at)) u) (ok y v) h e = absurd h
 same_ending (stop (p.ends (strayed at)) u) (ok y v) h e = absurd h
-same_ending (stop (p.ends (exited n)) u) (stop y v) h e = subst (λ z. SameEnding (s.ending_at (exited n) u) (s.ending (stop z v))) h.0 (record { end = refl; log = h.1.log; taken = h.1.taken; cost = h.1.cost })
-same_ending (stop (p.ends (checked c at)) u) (stop y v) h e = subst (λ z. SameEnding (s.ending_at (checked c at) u) (s.ending (stop z v))) h.0 (record { end = refl; log = h.1.log; taken = h.1.taken; cost = h.1.cost })
-same_ending (stop (p.ends (strayed at)) u) (stop y v) h e = subst (λ z. SameEnding (s.ending_at (strayed at) u) (s.ending (stop z v))) h.0 (record { end = refl; log = h.1.log; taken = h.1.taken; cost = h.1.cost })
+same_ending (stop (p.ends (trapped pc)) u) (ok y v) h e = absurd h
+same_ending (stop (p.ends (exited n)) u) (stop y v) h e = subst (λ z. s.ending (stop z v) ≡ s.ending_at (exited n) u) h.0 (same_at (exited n) u v h.1)
+same_ending (stop (p.ends (checked c at)) u) (stop y v) h e = subst (λ z. s.ending (stop z v) ≡ s.ending_at (checked c at) u) h.0 (same_at (checked c at) u v h.1)
+same_ending (stop (p.ends (strayed at)) u) (stop y v) h e = subst (λ z. s.ending (stop z v) ≡ s.ending_at (strayed at) u) h.0 (same_at (strayed at) u v h.1)
+same_ending (stop (p.ends (trapped pc)) u) (stop y v) h e = subst (λ z. s.ending (stop z v) ≡ s.ending_at (trapped pc) u) h.0 (same_at (trapped pc) u v h.1)
 
-pub ended_stays : (z : t.Program) (input : List ℕ) (n m : ℕ) → n ≤ m → HasEnded (s.source z input n).end → SameEnding (s.source z input n) (s.source z input m)
-ended_stays z input n m e h = same_ending _ _ ((w.runs Less Stops staying z n m (fuels n m e)).by (s.first_state z input n) (s.first_state z input m)
+pub stopped_stays : (z : t.Program) (input : List ℕ) (n m : ℕ) → n ≤ m → HasStopped (s.source z input n).end → s.source z input m ≡ s.source z input n
+stopped_stays z input n m e h = same_ending _ _ ((w.runs Less Stops staying z n m (fuels n m e)).by (s.first_state z input n) (s.first_state z input m)
     (record { memory = refl; log = refl; input = refl; taken = refl; cost = refl; serial = refl; left = e })) h

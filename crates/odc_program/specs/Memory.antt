@@ -1,5 +1,6 @@
+-- Memory: blocks that are live or have ended, and their bytes.
 use Rattle.std.specs.Prelude.{ℕ, zero, suc, ◌+◌, ◌==◌, ◌&&◌, Bool, true, false, [], ◌∷◌, length, Option, Some, None, nat_le, if◌then◌else◌}
-use Rattle.odc_program.specs.Bytes.{Block, global, literal, region, variable, Byte, number, Value, same}
+use Rattle.odc_program.specs.Bytes.{Block, literal, variable, Byte, number, Value, same}
 
 abbrev pub stretch : (ℕ → Byte) → ℕ → ℕ → Value
 stretch f a zero = []
@@ -10,7 +11,9 @@ written f a [] x = f x
 written f a (v ∷ vs) x = if x == a then v else written f (a + 1) vs x
 
 pub record Memory : Type 0 where
+  -- None: not live
   pub size : Block → Option ℕ
+  -- also after its end
   pub long : Block → ℕ
   pub byte : Block → ℕ → Byte
 
@@ -48,8 +51,16 @@ open_block m b vs = record {
   byte = at_block b (written (m.byte b) 0 vs) m.byte;
 }
 
+-- a block of so many zeros
+abbrev pub open_zeros : Memory → Block → ℕ → Memory
+open_zeros m b n = record {
+  size = at_block b (Some n) m.size;
+  long = at_block b n m.long;
+  byte = at_block b (λ x. number 0) m.byte;
+}
+
 abbrev pub is_of : ℕ → Block → Bool
-is_of serial (variable serial' at x) = serial == serial'
+is_of serial (variable f serial' at x) = serial == serial'
 is_of serial _ = false
 
 abbrev pub close : Memory → ℕ → Memory
@@ -57,7 +68,7 @@ close m serial = record { size = (λ b. if is_of serial b then None else m.size 
 
 -- the blocks of a helper end with it: those of the activation from an address on
 abbrev pub lies_behind : ℕ → ℕ → Block → Bool
-lies_behind serial low (variable serial' at x) = (serial == serial') && nat_le low at
+lies_behind serial low (variable f serial' at x) = (serial == serial') && nat_le low at
 lies_behind serial low _ = false
 
 abbrev pub close_from : Memory → ℕ → ℕ → Memory

@@ -1,0 +1,31 @@
+-- What holds of all runs.
+use Rattle.std.specs.Prelude.{◌≡◌, ℕ, ◌≤◌, List, ◌++◌}
+use Rattle.odc_text.specs.Run.{End, going, Entry}
+use Rattle.odc_program.specs.Run.{Res, ok, stop}
+use Rattle.odc_program.specs.Bytes.{Pointer}
+use Rattle.odc_program.specs.Program.{Program}
+use Rattle.odc_program.specs.State.{State, Leave}
+use Rattle.odc_program.specs.Source.{source, main_run}
+
+-- it has exited, stopped at a check, or strayed
+abbrev pub HasStopped : End → Type 0
+HasStopped going = ⊥
+HasStopped _ = Unit {0}
+
+-- a run that has stopped is the same at every greater bound
+abbrev pub StoppedStays : Type 0
+StoppedStays = (p : Program) (input : List ℕ) (n m : ℕ) → n ≤ m → HasStopped (source p input n).end → source p input m ≡ source p input n
+
+-- a state with more in the log and a greater cost
+pub record Grown (u v : State) : Type 0 where
+  pub more : List (Entry Pointer ℕ)
+  pub log : v.log ≡ u.log ++ more
+  pub cost : u.cost ≤ v.cost
+
+abbrev pub GrownTo : {A : Type 0} → State → Res Leave State A → Type 0
+GrownTo u (ok a v) = Grown u v
+GrownTo u (stop w v) = Grown u v
+
+-- whatever state a program begins in, it only adds to the log and the cost
+abbrev pub OnlyGrows : Type 0
+OnlyGrows = (p : Program) (n : ℕ) (u : State) → GrownTo u (main_run p n u)
