@@ -1,11 +1,11 @@
 -- Words to write small programs in, for closed runs.
-use Rattle.std.specs.Prelude.{ℕ, ◌*◌, ℤ, pos, Bool, true, false, List, [], ◌∷◌, Some, None, codes}
+use Rattle.std.specs.Prelude.{ℕ, ◌*◌, ◌++◌, ℤ, pos, Bool, true, false, List, [], ◌∷◌, Some, None, codes}
 use Rattle.odc_text.specs.declared.place.Place.{Place}
 use Rattle.odc_program.specs.declared.ops.Constant.TheVariants as con
 use Rattle.odc_program.specs.declared.ops.BinaryOp.{BinaryOp}
 use Rattle.odc_program.specs.declared.ops.Builtin.{Builtin}
 use Rattle.odc_program.specs.declared.ops.Builtin.TheVariants.{Println}
-use Rattle.odc_program.specs.Bytes.{Value, zeros}
+use Rattle.odc_program.specs.Bytes.{Value, zeros, int_bytes}
 use Rattle.odc_program.specs.Tree as t
 use Rattle.odc_program.specs.Program.{Part, Enumerator, Shape, truth, whole, rune, text, raw, address, array, slice, dynamic, soa_array, soa_slice, soa_dynamic, fields, variants, names, procedure, several, Ty, Local, Head, Global, Literal, Body, Program}
 
@@ -155,6 +155,39 @@ IntProc = 39
 abbrev pub TextBool : ℕ
 TextBool = 40
 
+abbrev pub I32 : ℕ
+I32 = 41
+
+-- a procedure that answers an `int`
+abbrev pub Teller : ℕ
+Teller = 42
+
+-- one that answers an error
+abbrev pub Failing : ℕ
+Failing = 43
+
+-- one that answers a pointer
+abbrev pub Pointing : ℕ
+Pointing = 44
+
+-- one without a context that answers an error
+abbrev pub Contextless : ℕ
+Contextless = 45
+
+-- one that answers a `bool`
+abbrev pub Truthful : ℕ
+Truthful = 46
+
+-- pointers
+abbrev pub BytePointer : ℕ
+BytePointer = 47
+
+abbrev pub BoolPointer : ℕ
+BoolPointer = 48
+
+abbrev pub RecPointer : ℕ
+RecPointer = 49
+
 abbrev pub types : List Ty
 types =
     one 8 Int (whole true) ∷
@@ -169,7 +202,7 @@ types =
     one 1 Byte_ (whole false) ∷
     record { size = 17; align = 8; base = Answered; shape = several (ByteSlice_ ∷ Error ∷ []) } ∷
     record { size = 256; align = 1; base = Buffer; shape = array Byte_ 256 } ∷
-    words 5 Location (fields (field_at 0 Text ∷ field_at 16 Int ∷ field_at 20 Int ∷ field_at 24 Text ∷ [])) ∷
+    words 5 Location (fields (field_at 0 Text ∷ field_at 16 I32 ∷ field_at 20 I32 ∷ field_at 24 Text ∷ [])) ∷
     words 2 Allocator (fields (field_at 0 AllocatorProc ∷ field_at 8 Raw ∷ [])) ∷
     record { size = 9; align = 8; base = IntError; shape = several (Int ∷ Error ∷ []) } ∷
     one 1 Error (names false (named 0 (codes "None") ∷ named 1 (codes "Out_Of_Memory") ∷ named 2 (codes "Invalid_Pointer") ∷ named 3 (codes "Invalid_Argument") ∷ named 4 (codes "Mode_Not_Implemented") ∷ [])) ∷
@@ -198,6 +231,15 @@ types =
     words 9 EitherArray (array Either 3) ∷
     words 1 IntProc (procedure true (Int ∷ []) (Int ∷ [])) ∷
     record { size = 17; align = 8; base = TextBool; shape = several (Text ∷ Bool_ ∷ []) } ∷
+    one 4 I32 (whole true) ∷
+    words 1 Teller (procedure true [] (Int ∷ [])) ∷
+    words 1 Failing (procedure true [] (Error ∷ [])) ∷
+    words 1 Pointing (procedure true [] (IntPointer ∷ [])) ∷
+    words 1 Contextless (procedure false [] (Error ∷ [])) ∷
+    words 1 Truthful (procedure true [] (Bool_ ∷ [])) ∷
+    words 1 BytePointer (address Byte_) ∷
+    words 1 BoolPointer (address Bool_) ∷
+    words 1 RecPointer (address Rec) ∷
     []
 
 -- ---- nodes; a constant and a name stand in column 1, others where they say
@@ -317,7 +359,7 @@ glob_of ty v = record { at = 1342177280; ty = ty; first = v }
 
 abbrev pub with_all : List Global → List Literal → Value → List Proc → Program
 with_all gs ls first ps = record {
-  tables = record { types = types; globals = gs; literals = ls; procedures = heads ps; first = first; files = 0; allocator = AllocatorProc };
+  tables = record { types = types; globals = gs; literals = ls ++ (lit (codes "main") ∷ []); procedures = heads ps; first = first; files = 0; allocator = AllocatorProc };
   bodies = bodies ps;
   main = 0;
 }
@@ -332,3 +374,30 @@ program ps = with_all [] [] (zeros 48) ps
 
 abbrev pub saying : List (List ℕ) → List Proc → Program
 saying texts ps = with_all [] (with_texts texts) (zeros 48) ps
+
+-- a global of three integers, and one of 256 bytes
+abbrev pub three : Global
+three = glob_of Three (int_bytes 8 (pos 10) ++ int_bytes 8 (pos 20) ++ int_bytes 8 (pos 30))
+
+abbrev pub buffer : Global
+buffer = glob_of Buffer (zeros 256)
+
+-- the parameters, results and types of an allocator procedure
+abbrev pub allocator_locals : List Local
+allocator_locals = at_place Raw 128 ∷ at_place Byte_ 144 ∷ at_place Int 160 ∷ at_place Int 176 ∷ at_place Raw 192 ∷ at_place Int 208 ∷ at_place Location 224 ∷ at_place ByteSlice_ 272 ∷ at_place Error 296 ∷ []
+
+-- an allocator that answers as many bytes as are asked for, from the begin of global g: a call costs 28 and its turn is in it
+abbrev pub allocator_of : ℕ → Proc
+allocator_of g = proc AllocatorProc 7 2 allocator_locals []
+    (give (node ByteSlice_ 40 (t.cut (glob Buffer g) (t.present (num 0)) (t.present (loc Int 2))) ∷ of_type Error (pos 0) ∷ []) ∷ [])
+
+-- one that has no memory: a call costs 24
+abbrev pub refuser : Proc
+refuser = proc AllocatorProc 7 2 allocator_locals [] (give (nil_of ByteSlice_ ∷ of_type Error (pos 1) ∷ []) ∷ [])
+
+abbrev pub address_of : ℕ → t.Expr → t.Expr
+address_of ty e = node ty 50 (t.address_ e)
+
+-- a procedure that prints a number and answers another: a call costs 12
+abbrev pub telling : ℕ → ℕ → Proc
+telling n k = proc Teller 0 1 (at_place Int 128 ∷ []) [] (show (num n ∷ []) ∷ give (num k ∷ []) ∷ [])

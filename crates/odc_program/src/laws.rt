@@ -1,13 +1,18 @@
 //! Closed runs of small programs: what each prints, how it ends, what it costs and how many turns it takes.
 
-ghost use Rattle.std.specs.Prelude.{◌≡◌, ℕ, List, [], ◌∷◌, map, codes};
-ghost use Rattle.odc_text.specs.Run.{exited, checked, strayed};
+ghost use Rattle.std.specs.Prelude.{◌≡◌, ℕ, pos, List, [], ◌∷◌, map, replicate, true, false, codes};
+ghost use Rattle.odc_text.specs.Run.{exited, checked, strayed, going, out, err};
 ghost use Rattle.odc_text.specs.declared.check.Check.TheVariants as check;
-ghost use Rattle.odc_program.specs.Told.{Prints};
+ghost use Rattle.odc_program.specs.Well.{well};
+ghost use Rattle.odc_program.specs.Told.{told, asked, Prints, Leaves};
+ghost use Rattle.odc_program.specs.Bytes.{global, nil, to};
 ghost use Rattle.odc_program.specs.Laws.{StoppedStays, OnlyGrows};
 ghost use Rattle.odc_program.specs.Writing.{at};
 ghost use Rattle.odc_program.specs.Tree as tree;
 ghost use Rattle.odc_program.specs.First as first;
+ghost use Rattle.odc_program.specs.Second as second;
+ghost use Rattle.odc_program.specs.Third as third;
+ghost use Rattle.odc_program.specs.Ill as ill;
 
 /// An `i8` wraps.
 pub fn wraps()
@@ -57,4 +62,295 @@ pub fn stopped_stays()
 /// A program only adds to the log and the cost, whatever state it begins in.
 pub fn only_grows()
     ensures { OnlyGrows }
+{}
+
+/// A loop by place changes the elements.
+pub fn by_place()
+    ensures { Prints second.by_place (codes "10 21 32\n") (exited 0) 63 3 }
+{}
+
+/// A loop by value over an array reads the elements as they are when their turn comes.
+pub fn live()
+    ensures { Prints second.live (codes "10\n20\n9\n") (exited 0) 63 3 }
+{}
+
+/// A loop with a header runs what stands behind each turn.
+pub fn counted()
+    ensures { Prints second.counted (codes "0\n1\n") (exited 0) 43 2 }
+{}
+
+/// A loop without end goes on past every bound.
+pub fn endless()
+    ensures { told second.endless [] 3 ≡ record { end = going; log = []; taken = 0; cost = 4; turns = 3 } }
+{}
+
+/// A switch tries its cases in order, takes the default last, and `fallthrough` goes on with the next body.
+pub fn switched()
+    ensures { Prints second.switched (codes "2\n3\n") (exited 0) 22 1 }
+{}
+
+/// `..<` leaves its high end out, `..=` doesn't.
+pub fn spans()
+    ensures { Prints second.spans (codes "2\n") (exited 0) 17 0 }
+{}
+
+/// The name of a case of a type switch is what the union holds.
+pub fn variant()
+    ensures { Prints second.variant (codes "5\n") (exited 0) 19 0 }
+{}
+
+/// A test of a union gives what it holds, or zero.
+pub fn tested()
+    ensures { Prints second.tested (codes "7 true\n false\n") (exited 0) 50 0 }
+{}
+
+/// Results are stored before deferred statements run, and answered behind them.
+pub fn answered()
+    ensures { Prints second.answered (codes "8\n") (exited 0) 28 2 }
+{}
+
+/// A call through nil stops behind its arguments.
+pub fn nil_called()
+    ensures { Prints second.nil_called (codes "4\n") (checked check.Nil (at 77)) 18 1 }
+{}
+
+/// A call through a value of another type strays behind its arguments, before its turn.
+pub fn wrong_type()
+    ensures { Prints second.wrong_type (codes "4\n") (strayed (at 77)) 15 1 }
+{}
+
+/// The right side of an assignment comes before its place.
+pub fn sides()
+    ensures { Prints second.sides (codes "2\n1\n5\n") (exited 0) 40 2 }
+{}
+
+/// The header of a slice is read behind the index.
+pub fn header_later()
+    ensures { Prints second.header_later (codes "30\n") (exited 0) 23 1 }
+{}
+
+/// Frames of more than 128 MiB in sum stop at the called procedure.
+pub fn deep()
+    ensures { Prints second.deep [] (checked check.Stack (at 6)) 24 8 }
+{}
+
+/// `or_return` leaves nested scopes through their deferred statements.
+pub fn left_early()
+    ensures { Prints second.left_early (codes "2 9\n5\nOut_Of_Memory\n") (exited 0) 66 1 }
+{}
+
+/// Helpers take no turn.
+pub fn helped()
+    ensures { Prints second.helped (codes "7 8\n9 10\n") (exited 0) 41 0 }
+{}
+
+/// A counted loop of a helper ends where its condition fails.
+pub fn counts_down()
+    ensures { Prints (second.counts_down 3) (codes "2\n1\n") (exited 0) 42 0 }
+{}
+
+/// A counted loop of a helper ends at its bound.
+pub fn counts_to_its_bound()
+    ensures { Prints (second.counts_down 1) (codes "2\n") (exited 0) 21 0 }
+{}
+
+/// `&&` and `||` evaluate their right sides only where they need them.
+pub fn short()
+    ensures { Prints second.short (codes "false true\n") (exited 0) 17 0 }
+{}
+
+/// Shifts and bitwise operators.
+pub fn bits()
+    ensures { Prints second.bits (codes "8 -4 4 5 7 2 -1\n") (exited 0) 38 0 }
+{}
+
+/// A shift by the width or more gives 0, or -1 for a negative number shifted right.
+pub fn wide_shifts()
+    ensures { Prints second.wide_shifts (codes "0 -1 0\n") (exited 0) 18 0 }
+{}
+
+/// Strings are compared byte by byte.
+pub fn texts()
+    ensures { Prints second.texts (codes "true true false\n") (exited 0) 36 0 }
+{}
+
+/// A conversion wraps, and a rune is printed in UTF-8.
+pub fn converted()
+    ensures { Prints second.converted (195 ∷ 169 ∷ codes " 44\n") (exited 0) 15 0 }
+{}
+
+/// The lesser, the greater, and a number without its sign.
+pub fn extremes()
+    ensures { Prints second.extremes (codes "3 5 4\n") (exited 0) 18 0 }
+{}
+
+/// A truth value that is read is 0 or 1.
+pub fn truth()
+    ensures { Prints second.truth (codes "true true\n") (exited 0) 31 0 }
+{}
+
+/// The padding of a built value is zero.
+pub fn padded()
+    ensures { Prints second.padded (codes "1\n") (exited 0) 23 0 }
+{}
+
+/// A location holds the place of its node.
+pub fn located()
+    ensures { Prints second.located (codes "4\n") (exited 0) 6 0 }
+{}
+
+/// `os.exit` ends with the low eight bits and runs no deferred statement.
+pub fn exits()
+    ensures { Prints second.exits [] (exited 44) 4 0 }
+{}
+
+/// `panic` writes to the second descriptor and stops.
+pub fn panics()
+    ensures { Leaves second.panics (map err (codes "no\n")) (checked check.Panic (at 20)) 8 0 }
+{}
+
+/// `assert` stops where its condition is false.
+pub fn asserts()
+    ensures { Prints second.asserts [] (checked check.Assert (at 20)) 3 0 }
+{}
+
+/// `os.read` takes what is there, and `os.write` writes it.
+pub fn copies_input()
+    ensures { told second.copies_input (97 ∷ 98 ∷ []) 100 ≡ record { end = exited 0; log = map out (codes "ab2\n"); taken = 2; cost = 27; turns = 0 } }
+{}
+
+/// A read of a variable whose activation has ended strays at the dereference.
+pub fn dangling()
+    ensures { Prints second.dangling (codes "1\n") (strayed (at 41)) 24 1 }
+{}
+
+/// A write to a literal strays at the assignment.
+pub fn writes_literal()
+    ensures { Prints second.writes_literal [] (strayed (at 3)) 11 0 }
+{}
+
+/// Elements of a container in columns are stored, swapped and read as records.
+pub fn in_columns()
+    ensures { Prints third.in_columns (codes "9 0 2\n") (exited 0) 90 0 }
+{}
+
+/// A loop by place over such a container writes one column; one by value reads all.
+pub fn loops_in_columns()
+    ensures { Prints third.loops_in_columns (codes "4\n4\n4\n") (exited 0) 72 6 }
+{}
+
+/// `ordered_remove` closes up.
+pub fn removes()
+    ensures { Prints third.removes (codes "20 30 2\n") (exited 0) 57 0 }
+{}
+
+/// `unordered_remove` moves the last element into the place.
+pub fn removes_unordered()
+    ensures { Prints third.removes_unordered (codes "30 20 2\n") (exited 0) 55 0 }
+{}
+
+/// `pop` takes the last element.
+pub fn pops()
+    ensures { Prints third.pops (codes "2 20\n") (exited 0) 44 0 }
+{}
+
+/// `clear` leaves no element.
+pub fn clears()
+    ensures { Prints third.clears (codes "0\n") (exited 0) 32 0 }
+{}
+
+/// Removing an element that is not there stops.
+pub fn removes_none()
+    ensures { Prints third.removes_none [] (checked check.Index (at 70)) 26 0 }
+{}
+
+/// `resize` within the capacity zeroes what is behind the old length.
+pub fn resizes()
+    ensures { Prints third.resizes (codes "10 0\n") (exited 0) 51 0 }
+{}
+
+/// The first append asks for eight elements.
+pub fn appends()
+    ensures { Leaves third.appends (asked 1 (pos 0) (pos 64) (pos 8) nil (pos 0) ∷ map out (codes "2 9\n")) (exited 0) 76 1 }
+{}
+
+/// A growth asks for twice the capacity and eight more, with the old memory.
+pub fn grows()
+    ensures { Leaves third.grows (asked 1 (pos 3) (pos 112) (pos 8) (to (global 1342177280 0) 0) (pos 24) ∷ map out (codes "4 14 5\n")) (exited 0) 91 1 }
+{}
+
+/// Without memory the array stays as it is.
+pub fn cannot_grow()
+    ensures { Leaves third.cannot_grow (asked 1 (pos 3) (pos 112) (pos 8) (to (global 1342177280 0) 0) (pos 24) ∷ map out (codes "3 3\n")) (exited 0) 72 1 }
+{}
+
+/// `delete` gives the storage back to the kept allocator.
+pub fn deletes()
+    ensures { Leaves third.deletes (asked 1 (pos 1) (pos 0) (pos 0) (to (global 1342177280 0) 0) (pos 24) ∷ []) (exited 0) 58 1 }
+{}
+
+/// An append to a container in columns asks for the storage of eight records.
+pub fn soa_appends()
+    ensures { Leaves third.soa_appends (asked 1 (pos 0) (pos 72) (pos 8) nil (pos 0) ∷ map out (codes "9 1 8\n")) (exited 0) 103 1 }
+{}
+
+/// Its growth asks for new storage, copies the columns, and gives the old one back.
+pub fn soa_grows()
+    ensures { Leaves third.soa_grows (asked 1 (pos 0) (pos 216) (pos 8) nil (pos 0) ∷ asked 1 (pos 1) (pos 0) (pos 0) (to (global 1342177280 0) 0) (pos 72) ∷ map out (codes "9 0 9 24\n")) (exited 0) 173 2 }
+{}
+
+/// `new` asks the allocator of the context.
+pub fn news()
+    ensures { Leaves third.news (asked 1 (pos 0) (pos 8) (pos 8) nil (pos 0) ∷ map out (codes "5\n")) (exited 0) 45 1 }
+{}
+
+/// A negative length stops.
+pub fn negative()
+    ensures { Prints third.negative [] (checked check.Length (at 20)) 3 0 }
+{}
+
+/// An allocator without a procedure answers without a call.
+pub fn none_there()
+    ensures { Prints third.none_there (codes "Mode_Not_Implemented\n") (exited 0) 36 0 }
+{}
+
+/// A changed context reaches the built-ins of its scope, and `or_return` runs the deferred statements.
+pub fn out_of_memory()
+    ensures { Leaves third.out_of_memory (asked 2 (pos 0) (pos 32) (pos 8) nil (pos 0) ∷ map out (codes "2\n1\nOut_Of_Memory\n")) (exited 0) 80 2 }
+{}
+
+/// A contextless procedure asks the allocator of the first context.
+pub fn without_context()
+    ensures { Leaves third.without_context (asked 2 (pos 0) (pos 8) (pos 8) nil (pos 0) ∷ map out (codes "Out_Of_Memory\n")) (exited 0) 62 2 }
+{}
+
+/// `copy` moves the lesser length.
+pub fn copies()
+    ensures { Prints third.copies (codes "2 121\n") (exited 0) 20 0 }
+{}
+
+/// A slice past the end of its container stops at its bracket.
+pub fn cut_too_far()
+    ensures { Prints third.cut_too_far [] (checked check.Slice (at 30)) 5 0 }
+{}
+
+/// Small programs that are well.
+pub fn first_are_well()
+    ensures { map well (first.wraps ∷ first.divides ∷ first.past_the_end ∷ first.late_check ∷ first.restored ∷ first.defers_in_loop (tree.break_ 7) ∷ first.nil_union ∷ []) ≡ replicate 7 true }
+{}
+
+/// More of them, with loops, calls, helpers and files.
+pub fn second_are_well()
+    ensures { map well (second.by_place ∷ second.live ∷ second.counted ∷ second.endless ∷ second.switched ∷ second.spans ∷ second.variant ∷ second.tested ∷ second.answered ∷ second.nil_called ∷ second.sides ∷ second.header_later ∷ second.deep ∷ second.left_early ∷ second.helped ∷ second.counts_down 3 ∷ second.short ∷ second.bits ∷ second.wide_shifts ∷ second.texts ∷ second.converted ∷ second.extremes ∷ second.truth ∷ second.padded ∷ second.located ∷ second.exits ∷ second.panics ∷ second.asserts ∷ second.copies_input ∷ second.dangling ∷ second.writes_literal ∷ []) ≡ replicate 31 true }
+{}
+
+/// More of them, with containers in columns and allocators.
+pub fn third_are_well()
+    ensures { map well (third.in_columns ∷ third.loops_in_columns ∷ third.news ∷ third.negative ∷ third.none_there ∷ third.out_of_memory ∷ third.without_context ∷ third.copies ∷ third.cut_too_far ∷ []) ≡ replicate 9 true }
+{}
+
+/// Programs that aren't well: a call through another type, labels and variables that aren't there, variables that lie
+/// too near or past their frame, values of other types, needs, and a `main` with a result.
+pub fn are_not_well()
+    ensures { map well (second.wrong_type ∷ first.defers_in_loop (tree.break_ 8) ∷ ill.too_near ∷ ill.past_frame ∷ ill.mistyped ∷ ill.unknown ∷ ill.needs_twice ∷ ill.needs_none ∷ ill.too_many ∷ ill.main_answers ∷ ill.changes_text ∷ []) ≡ replicate 11 false }
 {}

@@ -3,8 +3,24 @@
 //! combinator over what its parts do; the state is touched by a dozen primitives, so that a law of all runs owes one
 //! clause a primitive. Closed runs of small programs and laws of all runs are contracts of `laws`. Nothing is assumed
 //! of a program; the layers above may rely on the run being total.
+//!
+//! Not here yet:
+//! - The table of types has rows of its own, with sizes and offsets; nothing ties them to the table that `odc_types`
+//!   builds. A row stands for what an expression of none or several values gives.
+//! - `well` is a test that a program passes or not. It doesn't say that a variable begins before it is used, that labels
+//!   are different, that a frame has the size that the number of nodes gives, that the allocator procedures of the
+//!   runtime library are there, or that a deferred statement isn't left by an exit.
+//! - That a well program strays at a node of its own, and that the numbers of types don't matter, are not proved. Nor
+//!   are the laws of rewriting one kind of node into others.
+//! - These have no closed run: `fmt.print`, writing to the second descriptor, `make` with memory, an append without a
+//!   growth, `reserve`, a growth by `resize`, `free`, `free_all`, `delete` of a slice, the regions, `byte_slice`,
+//!   removing from, cutting and copying containers in columns, a marked call through a value, an injected part of
+//!   several results, a default in a type switch behind others, and loops over slices.
+//! - Sequencing and spending (`specs/Run`) are parametric in the state and may move below.
+//! - No function makes, copies or gives up a tree.
 #![tactic(auto)]
 
 pub mod laws;
 pub mod ops;
+pub mod program;
 pub mod tree;
