@@ -116,8 +116,8 @@ module _ (S : s.State → s.State → Type 0) (Stops : s.Leave → s.State → a
   pub assigns : (at : Place) (env : s.Env) {m n : s.Do (List Value)} {k l : s.Do (List (Option s.Spot))} → Same m n → Same k l → (c : s.Context) → Same (t.run_assign at env m k c) (t.run_assign at env n l c)
   assigns at env h k c = thens h (λ vs. thens k (λ qs. thens (each_stores at env qs vs c) (λ d. (lefts t.falls).by d)))
 
-  pub changes : (at : Place) (env : s.Env) (x : BinaryOp) (ty u : ℕ) {m n : s.Do s.Spot} {k l : s.Do Value} → Same m n → Same k l → (c : s.Context) → Same (t.run_change at env x ty u m k c) (t.run_change at env x ty u n l c)
-  changes at env x ty u h k c = thens h (λ q. thens (pl.read_spots S Stops r env at q (s.size_of env ty)) (λ v. thens k (λ w. thens (ol.operates S Stops r env at x ty u v w) (λ z. thens (pl.spot_stores S Stops r at env q z c) (λ d. (lefts t.falls).by d)))))
+  pub changes : (at from : Place) (env : s.Env) (x : BinaryOp) (ty u : ℕ) {m n : s.Do s.Spot} {k l : s.Do Value} → Same m n → Same k l → (c : s.Context) → Same (t.run_change at from env x ty u m k c) (t.run_change at from env x ty u n l c)
+  changes at from env x ty u h k c = thens h (λ q. thens (pl.read_spots S Stops r env from q (s.size_of env ty)) (λ v. thens k (λ w. thens (ol.operates S Stops r env at x ty u v w) (λ z. thens (pl.spot_stores S Stops r at env q z c) (λ d. (lefts t.falls).by d)))))
 
   pub evals : {m n : s.Do Value} → Same m n → (c : s.Context) → Same (t.run_eval m c) (t.run_eval n c)
   evals h c = thens h (λ v. (lefts t.falls).by c)
@@ -178,9 +178,9 @@ module _ (S : s.State → s.State → Type 0) (Stops : s.Leave → s.State → a
   spans env at ty l x y closed h k g c = thens h (λ v. thens k (λ w. thens (pl.wholes S Stops r env at ty v) (λ i. thens (pl.wholes S Stops r env at ty w) (λ j.
       (each_turns l (t.range_count i j closed) 0 _ (λ q. pures _) (beguns env x y g false)).by c))))
 
-  element_reads : (env : s.Env) (at : Place) (by_place : Bool) (n : ℕ) (b : s.Base) → Same (t.element_read env at by_place n b) (t.element_read env at by_place n b)
-  element_reads env at true n b = pures b
-  element_reads env at false n b = a.givens S Stops r (pl.read_bases S Stops r env at n b)
+  element_reads : (env : s.Env) (at : Place) (by_place : Bool) (e : ℕ) (b : s.Base) → Same (t.element_read env at by_place e b) (t.element_read env at by_place e b)
+  element_reads env at true e b = pures b
+  element_reads env at false e b = a.givens S Stops r (pl.value_ins S Stops r env at e b)
 
   pub throughs : (env : s.Env) (at : Place) (ty i l : ℕ) (x y : Option ℕ) (by_place : Bool) {m n : s.Do s.Base} {f g : s.Env → t.Part} → Same m n → ((e : s.Env) → SamePart (f e) (g e)) → (c : s.Context) →
       Same (t.run_through env at ty i l x y by_place m f c) (t.run_through env at ty i l x y by_place n g c)

@@ -208,13 +208,13 @@ module _ (S : s.State → s.State → Type 0) (Stops : s.Leave → s.State → a
         form : (env : s.Env) (at : Place) (k : t.Form) (c : s.Context) → Same (x.form_of n y env at k c) (x.form_of m z env at k c)
         form env at (t.declare xs v) c = b.declares S Stops r env xs (rights (s.in_context_of env c) v) c
         form env at (t.assign ls v) c = b.assigns S Stops r at env (rights (s.in_context_of env c) v) (places (s.in_context_of env c) ls) c
-        form env at (t.change op i j) c = b.changes S Stops r at (s.in_context_of env c) op (t.ty i) (t.ty j) (pl.as_spots S Stops r (t.at_of i) (bases (s.in_context_of env c) i)) (values (s.in_context_of env c) j) c
+        form env at (t.change op i j) c = b.changes S Stops r at (t.at_of i) (s.in_context_of env c) op (t.ty i) (t.ty j) (pl.as_spots S Stops r (t.at_of i) (bases (s.in_context_of env c) i)) (values (s.in_context_of env c) j) c
         form env at (t.eval i) c = b.evals S Stops r (values (s.in_context_of env c) i) c
         form env at (t.block l body) c = (b.blocks S Stops r l (execs env body)).by c
         form env at (t.if_ init i body other) c = (b.conditionals S Stops r (maybe env init) (λ d. truths_of (s.in_context_of env d) i) (execs env body) (execs env other)).by c
         form env at (t.loop l init i post body) c = (b.loops S Stops r n m l g (maybe env init) (λ d. conditions (s.in_context_of env d) i) (maybe env post) (execs env body)).by c
         form env at (t.range l (t.from_to i j closed) h k body) c = b.spans S Stops r env at (t.ty i) l h k closed (values (s.in_context_of env c) i) (values (s.in_context_of env c) j) (λ env. execs env body) c
-        form env at (t.range l (t.through i by_place) h k body) c = b.throughs S Stops r env at (t.ty i) (s.size_of env (x.element_type (s.shape_of env (t.ty i)))) l h k by_place (bases (s.in_context_of env c) i) (λ env. execs env body) c
+        form env at (t.range l (t.through i by_place) h k body) c = b.throughs S Stops r env at (t.ty i) (x.element_type (s.shape_of env (t.ty i))) l h k by_place (bases (s.in_context_of env c) i) (λ env. execs env body) c
         form env at (t.switch l init i cs) c = (b.headers S Stops r (maybe env init) (record { by = λ d. (b.cases S Stops r l (λ e. subjects (s.in_context_of env e) i) (case_tests (s.in_context_of env d) cs) (bodies env cs)).by d })).by c
         form env at (t.type_switch l i cs) c = (b.type_cases S Stops r l (λ d. values (s.in_context_of env d) i) (tag_tests env at (t.ty i) cs) (type_bodies env at cs)).by c
         form env at (t.defer i) c = (exec env i).by c

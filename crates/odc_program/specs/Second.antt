@@ -6,7 +6,7 @@ use Rattle.odc_program.specs.declared.ops.Builtin.TheVariants as b
 use Rattle.odc_program.specs.Bytes.{zeros}
 use Rattle.odc_program.specs.Tree as t
 use Rattle.odc_program.specs.Program.{Head, Helper, Program}
-use Rattle.odc_program.specs.Writing.{Teller, Failing, Pointing, Truthful, BytePointer, BoolPointer, RecPointer, Raw, lit, Int, Bool_, Text, IntPointer, Either, Plain, Byte_, ByteSlice_, Buffer, Location, Error, Three, Rune, FileAnswer, FileError, IntBool, TextBool, IntProc, IntSlice, Nothing, I32, Rec, at, num, of_type, bool, str, loc, glob, node, args, calls, bin, field, elem, rec_of, context_index, st, block_of, show, let_, zero, set, call, do_, give, at_place, proc, main, types, program, saying, with_all, three, buffer, address_of, telling, glob_of}
+use Rattle.odc_program.specs.Writing.{Teller, Failing, Pointing, Truthful, BytePointer, BoolPointer, RecPointer, Bools, BoolsPointer, Raw, lit, Int, Bool_, Text, IntPointer, Either, Plain, Byte_, ByteSlice_, Buffer, Location, Error, Three, Rune, FileAnswer, FileError, IntBool, TextBool, IntProc, IntSlice, Nothing, I32, Rec, at, num, of_type, bool, str, loc, glob, node, args, calls, bin, field, elem, rec_of, context_index, st, block_of, show, let_, zero, set, call, do_, give, at_place, proc, main, types, program, saying, with_all, three, buffer, address_of, telling, glob_of}
 
 -- ---- loops
 abbrev pub ten_twenty_thirty : t.Expr
@@ -196,6 +196,12 @@ abbrev pub truth : Program
 truth = program (main (at_place Byte_ 128 ∷ at_place BoolPointer 144 ∷ []) []
     (let_ 0 (of_type Byte_ (pos 2)) ∷ let_ 1 (node BoolPointer 20 (t.convert (address_of BytePointer (loc Byte_ 0)))) ∷
     show (node Bool_ 21 (t.deref (loc BoolPointer 1)) ∷ bin Bool_ op.Equal 22 (node Bool_ 21 (t.deref (loc BoolPointer 1))) (bool true) ∷ []) ∷ []) ∷ [])
+
+-- such a byte as the element of an array, in a loop by value: 3, 5, 4 and 12
+abbrev pub truth_element : Program
+truth_element = program (main (at_place Byte_ 128 ∷ at_place BoolsPointer 144 ∷ at_place Bool_ 160 ∷ []) []
+    (let_ 0 (of_type Byte_ (pos 2)) ∷ let_ 1 (node BoolsPointer 20 (t.convert (address_of BytePointer (loc Byte_ 0)))) ∷
+    st (t.range 1 (t.through (node Bools 21 (t.deref (loc BoolsPointer 1))) false) (Some 2) None (block_of (show (node Byte_ 22 (t.deref (node BytePointer 23 (t.convert (address_of BoolPointer (loc Bool_ 2))))) ∷ []) ∷ []))) ∷ []) ∷ [])
 
 -- the padding of a built value is zero: its first eight bytes are those of the field: 10, 5 and 8
 abbrev pub padded : Program

@@ -62,7 +62,7 @@ element_type _ = 0
 abbrev pub run_over : Calls → Env → Place → ℕ → Over → Option ℕ → Option ℕ → (Env → Part) → Part
 run_over calls env at l (from_to e f closed) x y body c = run_span env at (ty e) l x y closed (value_of calls (in_context_of env c) e) (value_of calls (in_context_of env c) f) body c
 run_over calls env at l (through e by_place) x y body c =
-    run_through env at (ty e) (size_of env (element_type (shape_of env (ty e)))) l x y by_place (base_of calls (in_context_of env c) e) body c
+    run_through env at (ty e) (element_type (shape_of env (ty e))) l x y by_place (base_of calls (in_context_of env c) e) body c
 
 -- ---- statements; n bounds the turns of each loop
 abbrev mutual
@@ -72,7 +72,7 @@ abbrev mutual
   pub form_of : ℕ → Calls → Env → Place → Form → Part
   form_of n calls env at (declare xs values) c = run_declare env xs (rights_of calls (in_context_of env c) values) c
   form_of n calls env at (assign lefts values) c = run_assign at env (rights_of calls (in_context_of env c) values) (places_of calls (in_context_of env c) lefts) c
-  form_of n calls env at (change o e f) c = run_change at (in_context_of env c) o (ty e) (ty f) (as_spot (at_of e) (base_of calls (in_context_of env c) e)) (value_of calls (in_context_of env c) f) c
+  form_of n calls env at (change o e f) c = run_change at (at_of e) (in_context_of env c) o (ty e) (ty f) (as_spot (at_of e) (base_of calls (in_context_of env c) e)) (value_of calls (in_context_of env c) f) c
   form_of n calls env at (eval e) c = run_eval (value_of calls (in_context_of env c) e) c
   form_of n calls env at (block l body) c = run_block l (execs n calls env body) c
   form_of n calls env at (if_ init e body other) c = run_if (maybe n calls env init) (seen env (λ env. truth_of calls env e)) (execs n calls env body) (execs n calls env other) c

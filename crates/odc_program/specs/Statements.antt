@@ -7,7 +7,7 @@ use Rattle.odc_program.specs.declared.ops.BinaryOp.TheVariants as op
 use Rattle.odc_program.specs.Run.{Res, ok, stop, pure, halt, ◌>>=◌, ◌>>>◌}
 use Rattle.odc_program.specs.Bytes.{Value, zeros, int_bytes}
 use Rattle.odc_program.specs.State.{State, Leave, ends, back, Do, spend, tick, turn, Spot, Base, lies, is, Context, Env, in_context_of, begin_local, begin_maybe, alias, local_of, size_of}
-use Rattle.odc_program.specs.Places.{read_spot, read_base, store_spot, gives, whole_of, natural, element, elements_of}
+use Rattle.odc_program.specs.Places.{read_spot, value_in, store_spot, gives, whole_of, natural, element, elements_of}
 use Rattle.odc_program.specs.Operators.{operate, tag_of, held}
 use Rattle.odc_program.specs.Calling.{store_result}
 
@@ -80,10 +80,10 @@ store_each at env _ _ c = pure c
 abbrev pub run_assign : Place → Env → Do (List Value) → Do (List (Option Spot)) → Part
 run_assign at env values places c = values >>= (λ vs. places >>= (λ ss. store_each at env ss vs c >>= left_by falls))
 
--- `a op= b`: the place once, what stands there, b, and the result
-abbrev pub run_change : Place → Env → BinaryOp → ℕ → ℕ → Do Spot → Do Value → Part
-run_change at env o t u target value c =
-    target >>= (λ p. read_spot env at p (size_of env t) >>= (λ v. value >>= (λ w. operate env at o t u v w >>= (λ x. store_spot at env p x c >>= left_by falls))))
+-- `a op= b`: the place once, what stands there, which is read at the place of a, b, and the result
+abbrev pub run_change : (at from : Place) → Env → BinaryOp → ℕ → ℕ → Do Spot → Do Value → Part
+run_change at from env o t u target value c =
+    target >>= (λ p. read_spot env from p (size_of env t) >>= (λ v. value >>= (λ w. operate env at o t u v w >>= (λ x. store_spot at env p x c >>= left_by falls))))
 
 abbrev pub run_eval : Do Value → Part
 run_eval m c = m >>= (λ v. left_by falls c)
@@ -161,15 +161,15 @@ run_span env at t l x y closed low high body c =
     low >>= (λ v. high >>= (λ w. whole_of env at t v >>= (λ a. whole_of env at t w >>= (λ b.
     each_turn l (range_count a b closed) 0 (λ k. pure (is (int_bytes (size_of env t) (a +ℤ pos k)))) (begun env x y body false) c))))
 
--- by value each element is read just before its turn
+-- by value each element is read just before its turn, as the type of the elements
 abbrev pub element_read : Env → Place → Bool → ℕ → Base → Do Base
-element_read env at true n b = pure b
-element_read env at false n b = gives (read_base env at n b)
+element_read env at true e b = pure b
+element_read env at false e b = gives (value_in env at e b)
 
 abbrev pub run_through : Env → Place → ℕ → ℕ → ℕ → Option ℕ → Option ℕ → Bool → Do Base → (Env → Part) → Part
-run_through env at t n l x y by_place container body c =
+run_through env at t e l x y by_place container body c =
     container >>= (λ b. elements_of env at t b >>= (λ es.
-    each_turn l (natural es.count) 0 (λ k. element at (pos k) es >>= element_read env at by_place n) (begun env x y body by_place) c))
+    each_turn l (natural es.count) 0 (λ k. element at (pos k) es >>= element_read env at by_place e) (begun env x y body by_place) c))
 
 -- ---- switches: which case is taken, and the bodies from there on
 abbrev pub Test : Type 0

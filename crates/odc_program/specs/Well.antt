@@ -109,7 +109,7 @@ need_of env n f = WellTypes.is_there (slice_get env.proc.needs n) (λ g. WellTyp
 
 -- a value as a type takes it: the same, a pointer as a raw one, or a variant as its union
 abbrev pub takes : Env → ℕ → Option ℕ → ℕ → Bool
-takes env u None t = (u == t) || (WellTypes.is_pointer (shape_of env u) && WellTypes.is_pointer (shape_of env t))
+takes env u None t = (u == t) || (WellTypes.is_pointer (shape_of env u) && WellTypes.is_raw (shape_of env t))
 takes env u (Some n) t = WellTypes.is_variant env t n u
 
 abbrev pub last_result_type : Env → ℕ
@@ -141,6 +141,18 @@ is_compared s = WellTypes.is_whole s || WellTypes.has_nil s
 abbrev pub is_ordered : Shape → Bool
 is_ordered text = true
 is_ordered s = WellTypes.is_number s
+
+-- the operators that may stand before the `=` of an assignment
+abbrev pub is_assigning : BinaryOp → Bool
+is_assigning op.AndAlso = false
+is_assigning op.OrElse = false
+is_assigning op.Equal = false
+is_assigning op.Unequal = false
+is_assigning op.Less = false
+is_assigning op.Greater = false
+is_assigning op.AtMost = false
+is_assigning op.AtLeast = false
+is_assigning _ = true
 
 abbrev pub binary_type : Env → BinaryOp → ℕ → ℕ → ℕ → Bool
 binary_type env op.AndAlso u v t = (u == v) && ((u == t) && WellTypes.is_truth (shape_of env t))
@@ -229,7 +241,7 @@ builtin_type env b.Write (u ∷ v ∷ []) t = WellTypes.is_int env u && (WellTyp
 builtin_type env b.Exit (u ∷ []) t = WellTypes.is_int env u && WellTypes.gives_nothing env t
 builtin_type env b.Len (u ∷ []) t = has_length (shape_of env u) && WellTypes.is_int env t
 builtin_type env b.Cap (u ∷ []) t = WellTypes.is_dynamic (shape_of env u) && WellTypes.is_int env t
-builtin_type env b.RawData (u ∷ []) t = (WellTypes.is_dynamic (shape_of env u) || (WellTypes.is_slice (shape_of env u) || WellTypes.is_text (shape_of env u))) && WellTypes.is_pointer (shape_of env t)
+builtin_type env b.RawData (u ∷ []) t = (WellTypes.is_dynamic (shape_of env u) || (WellTypes.is_slice (shape_of env u) || WellTypes.is_text (shape_of env u))) && WellTypes.is_raw (shape_of env t)
 builtin_type env b.Min (u ∷ v ∷ []) t = (u == v) && ((u == t) && WellTypes.is_whole (shape_of env t))
 builtin_type env b.Max (u ∷ v ∷ []) t = (u == v) && ((u == t) && WellTypes.is_whole (shape_of env t))
 builtin_type env b.Abs (u ∷ []) t = (u == t) && WellTypes.is_whole (shape_of env t)
@@ -419,7 +431,7 @@ abbrev mutual
   pub well_form : List Head → Env → List ℕ → List ℕ → Form → Bool
   well_form hs env ls bs (Tree.declare xs values) = declares env xs values && well_rights hs env values
   well_form hs env ls bs (Tree.assign lefts values) = well_lefts hs env lefts (rights_types values) && well_rights hs env values
-  well_form hs env ls bs (Tree.change o e f) = binary_type env o (ty e) (ty f) (ty e) && (can_be_stored (stands env e) && (well_expr hs env e && well_expr hs env f))
+  well_form hs env ls bs (Tree.change o e f) = (is_assigning o && binary_type env o (ty e) (ty f) (ty e)) && (can_be_stored (stands env e) && (well_expr hs env e && well_expr hs env f))
   well_form hs env ls bs (Tree.eval e) = well_expr hs env e
   well_form hs env ls bs (Tree.block l body) = well_stmts hs env ls (l ∷ bs) body
   well_form hs env ls bs (Tree.if_ init e body other) = well_maybe hs env ls bs init && (WellTypes.is_truth (shape_of env (ty e)) && (well_expr hs env e && (well_stmts hs env ls bs body && well_stmts hs env ls bs other)))

@@ -52,6 +52,10 @@ abbrev pub is_text : Shape → Bool
 is_text text = true
 is_text _ = false
 
+abbrev pub is_raw : Shape → Bool
+is_raw raw = true
+is_raw _ = false
+
 abbrev pub is_pointer : Shape → Bool
 is_pointer raw = true
 is_pointer (address t) = true

@@ -188,6 +188,13 @@ BoolPointer = 48
 abbrev pub RecPointer : ℕ
 RecPointer = 49
 
+-- an array of one truth value, and pointers to it
+abbrev pub Bools : ℕ
+Bools = 50
+
+abbrev pub BoolsPointer : ℕ
+BoolsPointer = 51
+
 abbrev pub types : List Ty
 types =
     one 8 Int (whole true) ∷
@@ -240,6 +247,8 @@ types =
     words 1 BytePointer (address Byte_) ∷
     words 1 BoolPointer (address Bool_) ∷
     words 1 RecPointer (address Rec) ∷
+    one 1 Bools (array Bool_ 1) ∷
+    words 1 BoolsPointer (address Bools) ∷
     []
 
 -- ---- nodes; a constant and a name stand in column 1, others where they say

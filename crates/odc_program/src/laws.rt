@@ -184,6 +184,11 @@ pub fn extremes()
     ensures { Prints second.extremes (codes "3 5 4\n") (exited 0) 18 0 }
 {}
 
+/// So is one that a loop by value reads, whatever its byte was.
+pub fn truth_element()
+    ensures { Prints second.truth_element (codes "1\n") (exited 0) 24 1 }
+{}
+
 /// A truth value that is read is 0 or 1.
 pub fn truth()
     ensures { Prints second.truth (codes "true true\n") (exited 0) 31 0 }
@@ -341,7 +346,7 @@ pub fn first_are_well()
 
 /// More of them, with loops, calls, helpers and files.
 pub fn second_are_well()
-    ensures { map well (second.by_place ∷ second.live ∷ second.counted ∷ second.endless ∷ second.switched ∷ second.spans ∷ second.variant ∷ second.tested ∷ second.answered ∷ second.nil_called ∷ second.sides ∷ second.header_later ∷ second.deep ∷ second.left_early ∷ second.helped ∷ second.counts_down 3 ∷ second.short ∷ second.bits ∷ second.wide_shifts ∷ second.texts ∷ second.converted ∷ second.extremes ∷ second.truth ∷ second.padded ∷ second.located ∷ second.exits ∷ second.panics ∷ second.asserts ∷ second.copies_input ∷ second.dangling ∷ second.writes_literal ∷ []) ≡ replicate 31 true }
+    ensures { map well (second.by_place ∷ second.live ∷ second.counted ∷ second.endless ∷ second.switched ∷ second.spans ∷ second.variant ∷ second.tested ∷ second.answered ∷ second.nil_called ∷ second.sides ∷ second.header_later ∷ second.deep ∷ second.left_early ∷ second.helped ∷ second.counts_down 3 ∷ second.short ∷ second.bits ∷ second.wide_shifts ∷ second.texts ∷ second.converted ∷ second.extremes ∷ second.truth ∷ second.truth_element ∷ second.padded ∷ second.located ∷ second.exits ∷ second.panics ∷ second.asserts ∷ second.copies_input ∷ second.dangling ∷ second.writes_literal ∷ []) ≡ replicate 32 true }
 {}
 
 /// More of them, with containers in columns and allocators.
