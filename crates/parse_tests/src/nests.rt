@@ -15,7 +15,7 @@ struct Nest {
     middle: &'static str,
     close: &'static str,
     tail: &'static str,
-    most: usize,
+    most: u8,
     less: usize,
     next: usize,
     column: usize,
@@ -291,31 +291,31 @@ fn nest_answer(alloc: Global, nest: &Nest, levels: usize) -> Result<String, Fail
     decl_answer(alloc, text.as_str())
 }
 
+/// Whether a declaration of so many levels answers this.
+fn answers(alloc: Global, nest: &Nest, levels: usize, want: &str) -> Result<bool, Fail> {
+    let got = nest_answer(alloc, nest, levels)?;
+    Ok(got.as_str() == want)
+}
+
+/// Whether the nest answers as it was counted: at one level less than the most, at the most, and at one more.
+fn is_as_counted(alloc: Global, nest: &Nest) -> Result<bool, Fail> {
+    let (less, next, column) = (nest.less, nest.next, nest.column);
+    let most = usize::from(nest.most);
+    let below = format!(in alloc; "next {less}")?;
+    let at = format!(in alloc; "next {next}")?;
+    let above = format!(in alloc; "L05 1:{column}")?;
+    Ok(
+        answers(alloc, nest, most.saturating_sub(1), below.as_str())?
+            && answers(alloc, nest, most, at.as_str())?
+            && answers(alloc, nest, most + 1, above.as_str())?,
+    )
+}
+
 #[test]
 fn deepest_nests(rt: HostRuntime) -> Result<(), Fail> {
     for nest in &NESTS {
-        let (less, next, column) = (nest.less, nest.next, nest.column);
-        let got = nest_answer(rt.alloc(), nest, nest.most - 1)?;
-        assert_eq!(rt;
-            got.as_str(),
-            format!(in rt.alloc(); "next {less}")?.as_str(),
-            "{}",
-            nest.name
-        );
-        let got = nest_answer(rt.alloc(), nest, nest.most)?;
-        assert_eq!(rt;
-            got.as_str(),
-            format!(in rt.alloc(); "next {next}")?.as_str(),
-            "{}",
-            nest.name
-        );
-        let got = nest_answer(rt.alloc(), nest, nest.most + 1)?;
-        assert_eq!(rt;
-            got.as_str(),
-            format!(in rt.alloc(); "L05 1:{column}")?.as_str(),
-            "{}",
-            nest.name
-        );
+        let right = is_as_counted(rt.alloc(), nest)?;
+        assert!(rt; right, "{}", nest.name);
     }
     Ok(())
 }
