@@ -1,5 +1,5 @@
 -- The programs that typing gives: each node has the type that its rule gives it, and everything that it names is there.
-use Rattle.std.specs.Prelude.{ℕ, zero, suc, ◌+◌, ◌-◌, ◌*◌, ◌==◌, ◌&&◌, ◌||◌, not, Bool, true, false, nat_le, nat_lt, if◌then◌else◌, List, [], ◌∷◌, ◌++◌, length, take, drop, Option, Some, None, slice_get}
+use Rattle.std.specs.Prelude.{ℕ, zero, suc, ◌+◌, ◌-◌, ◌*◌, ◌==◌, ◌&&◌, ◌||◌, not, Bool, true, false, nat_le, nat_lt, if◌then◌else◌, pos, List, [], ◌∷◌, ◌++◌, length, take, drop, Option, Some, None, slice_get}
 use Rattle.odc_program.specs.declared.ops.Taken.{Taken}
 use Rattle.odc_program.specs.declared.ops.UnaryOp.{UnaryOp}
 use Rattle.odc_program.specs.declared.ops.UnaryOp.TheVariants as un
@@ -7,6 +7,8 @@ use Rattle.odc_program.specs.declared.ops.BinaryOp.{BinaryOp}
 use Rattle.odc_program.specs.declared.ops.BinaryOp.TheVariants as op
 use Rattle.odc_program.specs.declared.ops.Builtin.{Builtin}
 use Rattle.odc_program.specs.declared.ops.Builtin.TheVariants as b
+use Rattle.odc_program.specs.declared.ops.Constant.TheVariants as con
+use Rattle.odc_text.specs.declared.place.Place.{Place}
 use Rattle.odc_program.specs.Tree
 use Rattle.odc_program.specs.Tree.{Expr, expr, Kind, Exprs, none, more, Maybe, absent, present, Parts, no_parts, part, ty, tys, Lefts, no_lefts, left_, dropped, Rights, nothing, each, parted, Items, no_items, item, span, Over, from_to, through, Stmt, stmt, Form, MaybeStmt, no_stmt, some_stmt, Stmts, finish, follow, Cases, no_cases, one_case, default_case, TypeCases, no_types, type_case, default_type}
 use Rattle.odc_program.specs.Program.{Part, Shape, truth, text, array, slice, dynamic, soa_array, soa_slice, soa_dynamic, fields, variants, names, procedure, Local, Head, Tables, Helper, Body, Program}
@@ -132,11 +134,16 @@ abbrev pub unary_type : Env → UnaryOp → ℕ → ℕ → Bool
 unary_type env un.Not u t = (u == t) && WellTypes.is_truth (shape_of env t)
 unary_type env _ u t = (u == t) && WellTypes.is_whole (shape_of env t)
 
+-- values of these types can be compared; those of others with a nil can be compared with nil
+abbrev pub is_alike : Shape → Bool
+is_alike truth = true
+is_alike text = true
+is_alike (names s es) = true
+is_alike (procedure odin ps rs) = true
+is_alike s = WellTypes.is_whole s || WellTypes.is_pointer s
+
 abbrev pub is_compared : Shape → Bool
-is_compared truth = true
-is_compared text = true
-is_compared (names s es) = true
-is_compared s = WellTypes.is_whole s || WellTypes.has_nil s
+is_compared s = is_alike s || WellTypes.has_nil s
 
 abbrev pub is_ordered : Shape → Bool
 is_ordered text = true
@@ -163,8 +170,8 @@ binary_type env op.Less u v t = (u == v) && (is_ordered (shape_of env u) && Well
 binary_type env op.Greater u v t = (u == v) && (is_ordered (shape_of env u) && WellTypes.is_truth (shape_of env t))
 binary_type env op.AtMost u v t = (u == v) && (is_ordered (shape_of env u) && WellTypes.is_truth (shape_of env t))
 binary_type env op.AtLeast u v t = (u == v) && (is_ordered (shape_of env u) && WellTypes.is_truth (shape_of env t))
-binary_type env op.ShiftLeft u v t = (u == t) && (WellTypes.is_whole (shape_of env t) && WellTypes.is_whole (shape_of env v))
-binary_type env op.ShiftRight u v t = (u == t) && (WellTypes.is_whole (shape_of env t) && WellTypes.is_whole (shape_of env v))
+binary_type env op.ShiftLeft u v t = (u == t) && (WellTypes.is_integer (shape_of env t) && WellTypes.is_integer (shape_of env v))
+binary_type env op.ShiftRight u v t = (u == t) && (WellTypes.is_integer (shape_of env t) && WellTypes.is_integer (shape_of env v))
 binary_type env _ u v t = (u == v) && ((u == t) && WellTypes.is_whole (shape_of env t))
 
 abbrev pub convert_type : Env → ℕ → ℕ → Bool
@@ -192,9 +199,18 @@ part_type env (array e n) d t = (e == t) && is_element_at d (size_of env e) n
 part_type env (soa_array r n) d t = (r == t) && nat_lt d n
 part_type env _ d t = false
 
+-- a value is built in a local of its own type, a slice over a local that is an array of its elements
+abbrev pub is_home : Env → Shape → ℕ → ℕ → Bool
+is_home env (slice e) t u = is_array_over (shape_of env u)
+  where
+    is_array_over : Shape → Bool
+    is_array_over (array f n) = e == f
+    is_array_over s = false
+is_home env s t u = t == u
+
 abbrev pub build_type : Env → ℕ → Option ℕ → Bool
 build_type env t None = true
-build_type env t (Some x) = nat_lt x (length env.proc.locals)
+build_type env t (Some x) = WellTypes.is_there (slice_get env.proc.locals x) (λ l. is_home env (shape_of env t) t l.ty)
 
 -- ---- built-in procedures
 abbrev pub value_first : Env → ℕ → (ℕ → Bool) → List ℕ → Bool
@@ -242,9 +258,9 @@ builtin_type env b.Exit (u ∷ []) t = WellTypes.is_int env u && WellTypes.gives
 builtin_type env b.Len (u ∷ []) t = has_length (shape_of env u) && WellTypes.is_int env t
 builtin_type env b.Cap (u ∷ []) t = WellTypes.is_dynamic (shape_of env u) && WellTypes.is_int env t
 builtin_type env b.RawData (u ∷ []) t = (WellTypes.is_dynamic (shape_of env u) || (WellTypes.is_slice (shape_of env u) || WellTypes.is_text (shape_of env u))) && WellTypes.is_raw (shape_of env t)
-builtin_type env b.Min (u ∷ v ∷ []) t = (u == v) && ((u == t) && WellTypes.is_whole (shape_of env t))
-builtin_type env b.Max (u ∷ v ∷ []) t = (u == v) && ((u == t) && WellTypes.is_whole (shape_of env t))
-builtin_type env b.Abs (u ∷ []) t = (u == t) && WellTypes.is_whole (shape_of env t)
+builtin_type env b.Min (u ∷ v ∷ []) t = (u == v) && ((u == t) && WellTypes.is_integer (shape_of env t))
+builtin_type env b.Max (u ∷ v ∷ []) t = (u == v) && ((u == t) && WellTypes.is_integer (shape_of env t))
+builtin_type env b.Abs (u ∷ []) t = (u == t) && WellTypes.is_integer (shape_of env t)
 builtin_type env b.Copy (u ∷ v ∷ []) t = WellTypes.is_int env t && (WellTypes.is_slice (shape_of env u) && ((u == v) || (WellTypes.is_byte_slice env u && WellTypes.is_text (shape_of env v))))
 builtin_type env b.Assert (u ∷ []) t = WellTypes.is_truth (shape_of env u) && WellTypes.gives_nothing env t
 builtin_type env b.Panic (u ∷ []) t = WellTypes.is_text (shape_of env u) && WellTypes.gives_nothing env t
@@ -266,7 +282,97 @@ builtin_type env b.Free (u ∷ rest) t = WellTypes.is_pointer (shape_of env u) &
 builtin_type env b.FreeAll ts t = at_most_allocator env ts && WellTypes.is_error env t
 builtin_type env _ ts t = false
 
--- ---- expressions; `hs` are the helpers that may be called
+-- ---- what stands round a node: the helpers that it may call, the ways out of its statement, and whether there is a context
+pub record Ways : Type 0 where
+  pub helpers : List Head
+  pub breaks : List ℕ
+  pub continues : List ℕ
+  -- in a case of a switch, before another case
+  pub falls : Bool
+  -- not in a deferred statement
+  pub returns : Bool
+  -- in a helper
+  pub counts : Bool
+  pub context : Bool
+
+abbrev pub breaking : ℕ → Ways → Ways
+breaking l w = record w { breaks = l ∷ w.breaks }
+
+abbrev pub looping : ℕ → Ways → Ways
+looping l w = record w { breaks = l ∷ w.breaks; continues = l ∷ w.continues }
+
+abbrev pub falling : Bool → Ways → Ways
+falling f w = record w { falls = f }
+
+-- a deferred statement leaves nothing that it doesn't begin
+abbrev pub deferred : Ways → Ways
+deferred w = record w { breaks = []; continues = []; falls = false; returns = false }
+
+abbrev pub begins_context : Lefts → Bool
+begins_context no_lefts = false
+begins_context (left_ (expr t at Tree.context) es) = true
+begins_context (left_ e es) = begins_context es
+begins_context (dropped es) = begins_context es
+
+-- what stands behind an assignment to the context, in its scope, has one
+abbrev pub behind : Stmt → Ways → Ways
+behind (stmt at (Tree.assign lefts values)) w = record w { context = w.context || begins_context lefts }
+behind s w = w
+
+abbrev pub behind_maybe : MaybeStmt → Ways → Ways
+behind_maybe no_stmt w = w
+behind_maybe (some_stmt s) w = behind s w
+
+abbrev pub is_odin : Shape → Bool
+is_odin (procedure odin ps rs) = odin
+is_odin s = false
+
+abbrev pub names_allocator : Env → List ℕ → Bool
+names_allocator env [] = false
+names_allocator env (t ∷ ts) = WellTypes.is_allocator env t || names_allocator env ts
+
+-- built-in procedures that ask the context for its allocator
+abbrev pub asks_context : Env → Builtin → List ℕ → Bool
+asks_context env b.Append ts = true
+asks_context env b.Reserve ts = true
+asks_context env b.Resize ts = true
+asks_context env b.New ts = not (names_allocator env ts)
+asks_context env b.Make ts = not (names_allocator env ts)
+asks_context env b.Free ts = not (names_allocator env ts)
+asks_context env b.FreeAll ts = not (names_allocator env ts)
+asks_context env b.Delete (t ∷ ts) = not (WellTypes.is_dynamic (shape_of env t) || names_allocator env ts)
+asks_context env _ ts = false
+
+-- ---- operands that one type alone doesn't tell
+abbrev pub is_nil : Expr → Bool
+is_nil (expr t at (Tree.const con.Nil)) = true
+is_nil e = false
+
+abbrev pub is_natural : Expr → Bool
+is_natural (expr t at (Tree.const (con.Int (pos n)))) = true
+is_natural e = false
+
+-- two values of a type, or one and nil
+abbrev pub compares : Env → Expr → Expr → Bool
+compares env e f = is_alike (shape_of env (ty e)) || (is_nil e || is_nil f)
+
+-- a count is unsigned, or a constant that isn't negative
+abbrev pub counts_bits : Env → Expr → Bool
+counts_bits env e = not (WellTypes.is_signed (shape_of env (ty e))) || is_natural e
+
+abbrev pub operands : Env → BinaryOp → Expr → Expr → Bool
+operands env op.Equal e f = compares env e f
+operands env op.Unequal e f = compares env e f
+operands env op.ShiftLeft e f = counts_bits env f
+operands env op.ShiftRight e f = counts_bits env f
+operands env _ e f = true
+
+-- the path of a location is there
+abbrev pub is_located : Env → Place → Kind → Bool
+is_located env at Tree.location = nat_lt (env.tables.files + at.file.number) (length env.tables.literals)
+is_located env at k = true
+
+-- ---- expressions
 abbrev pub helper_type : Env → List Head → ℕ → List ℕ → ℕ → Bool
 helper_type env hs h ts t = WellTypes.is_there (slice_get hs h) (λ q. WellTypes.same_list ts (local_types (take q.parameters q.locals)) && WellTypes.same_list (WellTypes.values_in env t) (local_types (take q.results (drop q.parameters q.locals))))
   where
@@ -275,46 +381,46 @@ helper_type env hs h ts t = WellTypes.is_there (slice_get hs h) (λ q. WellTypes
     local_types (l ∷ ls) = l.ty ∷ local_types ls
 
 abbrev mutual
-  pub well_expr : List Head → Env → Expr → Bool
-  well_expr hs env (expr t at k) = nat_lt t (length env.tables.types) && well_kind hs env t k
+  pub well_expr : Ways → Env → Expr → Bool
+  well_expr w env (expr t at k) = nat_lt t (length env.tables.types) && (is_located env at k && well_kind w env t k)
 
-  pub well_kind : List Head → Env → ℕ → Kind → Bool
-  well_kind hs env t (Tree.const c) = WellTypes.well_constant env t c
-  well_kind hs env t (Tree.local x) = WellTypes.is_there (slice_get env.proc.locals x) (λ l. l.ty == t)
-  well_kind hs env t (Tree.global_ g) = WellTypes.is_there (slice_get env.tables.globals g) (λ x. x.ty == t)
-  well_kind hs env t (Tree.proc_value n) = need_of env n (λ p. p.ty == t)
-  well_kind hs env t Tree.context = WellTypes.is_context env t
-  well_kind hs env t (Tree.field e n) = WellTypes.is_there (slice_get (parts_in (shape_of env (ty e))) n) (λ p. p.ty == t) && well_expr hs env e
-  well_kind hs env t (Tree.deref e) = WellTypes.points_to t (shape_of env (ty e)) && well_expr hs env e
-  well_kind hs env t (Tree.index e i) = WellTypes.is_whole (shape_of env (ty i)) && (index_type env (shape_of env (ty e)) t && (well_expr hs env e && well_expr hs env i))
-  well_kind hs env t (Tree.cut e low high) = cut_type env (shape_of env (ty e)) (shape_of env t) && (lies_if_fixed (shape_of env (ty e)) (stands env e) && (well_expr hs env e && (well_bound hs env low && well_bound hs env high)))
-  well_kind hs env t (Tree.column e n) = column_type env (shape_of env (ty e)) n (shape_of env t) && well_expr hs env e
-  well_kind hs env t (Tree.call n es) = need_of env n (λ p. call_type env (shape_of env p.ty) (tys es) t) && well_exprs hs env es
-  well_kind hs env t (Tree.call_value marked e es) = call_type env (shape_of env (ty e)) (tys es) t && (well_expr hs env e && well_exprs hs env es)
-  well_kind hs env t (Tree.builtin which es) = builtin_type env which (tys es) t && well_exprs hs env es
-  well_kind hs env t (Tree.or_return e variant) = or_return_type env t variant (WellTypes.values_in env (ty e)) && well_expr hs env e
-  well_kind hs env t (Tree.build home ps) = build_type env t home && well_parts hs env (shape_of env (home_type env t home)) ps
-  well_kind hs env t (Tree.unary o e) = unary_type env o (ty e) t && well_expr hs env e
-  well_kind hs env t (Tree.binary o e f) = binary_type env o (ty e) (ty f) t && (well_expr hs env e && well_expr hs env f)
-  well_kind hs env t (Tree.convert e) = convert_type env (ty e) t && well_expr hs env e
-  well_kind hs env t (Tree.inject n e) = WellTypes.is_variant env t n (ty e) && well_expr hs env e
-  well_kind hs env t (Tree.assert_ n e) = WellTypes.is_variant env (ty e) n t && well_expr hs env e
-  well_kind hs env t (Tree.test_ n e) = test_type env (ty e) n (WellTypes.values_in env t) && well_expr hs env e
-  well_kind hs env t (Tree.address_ e) = WellTypes.points_to (ty e) (shape_of env t) && (is_somewhere (stands env e) && well_expr hs env e)
-  well_kind hs env t Tree.location = WellTypes.is_location env t
-  well_kind hs env t (Tree.help h es) = helper_type env hs h (tys es) t && well_exprs hs env es
+  pub well_kind : Ways → Env → ℕ → Kind → Bool
+  well_kind w env t (Tree.const c) = WellTypes.well_constant env t c
+  well_kind w env t (Tree.local x) = WellTypes.is_there (slice_get env.proc.locals x) (λ l. l.ty == t)
+  well_kind w env t (Tree.global_ g) = WellTypes.is_there (slice_get env.tables.globals g) (λ x. x.ty == t)
+  well_kind w env t (Tree.proc_value n) = need_of env n (λ p. p.ty == t)
+  well_kind w env t Tree.context = w.context && WellTypes.is_context env t
+  well_kind w env t (Tree.field e n) = WellTypes.is_there (slice_get (parts_in (shape_of env (ty e))) n) (λ p. p.ty == t) && well_expr w env e
+  well_kind w env t (Tree.deref e) = WellTypes.points_to t (shape_of env (ty e)) && well_expr w env e
+  well_kind w env t (Tree.index e i) = WellTypes.is_whole (shape_of env (ty i)) && (index_type env (shape_of env (ty e)) t && (well_expr w env e && well_expr w env i))
+  well_kind w env t (Tree.cut e low high) = cut_type env (shape_of env (ty e)) (shape_of env t) && (lies_if_fixed (shape_of env (ty e)) (stands env e) && (well_expr w env e && (well_bound w env low && well_bound w env high)))
+  well_kind w env t (Tree.column e n) = column_type env (shape_of env (ty e)) n (shape_of env t) && well_expr w env e
+  well_kind w env t (Tree.call n es) = need_of env n (λ p. (w.context || not p.has_context) && call_type env (shape_of env p.ty) (tys es) t) && well_exprs w env es
+  well_kind w env t (Tree.call_value marked e es) = (marked || (w.context || not (is_odin (shape_of env (ty e))))) && (call_type env (shape_of env (ty e)) (tys es) t && (well_expr w env e && well_exprs w env es))
+  well_kind w env t (Tree.builtin which es) = (w.context || not (asks_context env which (tys es))) && (builtin_type env which (tys es) t && well_exprs w env es)
+  well_kind w env t (Tree.or_return e variant) = w.returns && (or_return_type env t variant (WellTypes.values_in env (ty e)) && well_expr w env e)
+  well_kind w env t (Tree.build home ps) = build_type env t home && well_parts w env (shape_of env (home_type env t home)) ps
+  well_kind w env t (Tree.unary o e) = unary_type env o (ty e) t && well_expr w env e
+  well_kind w env t (Tree.binary o e f) = binary_type env o (ty e) (ty f) t && (operands env o e f && (well_expr w env e && well_expr w env f))
+  well_kind w env t (Tree.convert e) = convert_type env (ty e) t && well_expr w env e
+  well_kind w env t (Tree.inject n e) = WellTypes.is_variant env t n (ty e) && well_expr w env e
+  well_kind w env t (Tree.assert_ n e) = WellTypes.is_variant env (ty e) n t && well_expr w env e
+  well_kind w env t (Tree.test_ n e) = test_type env (ty e) n (WellTypes.values_in env t) && well_expr w env e
+  well_kind w env t (Tree.address_ e) = WellTypes.points_to (ty e) (shape_of env t) && (is_somewhere (stands env e) && well_expr w env e)
+  well_kind w env t Tree.location = WellTypes.is_location env t
+  well_kind w env t (Tree.help h es) = helper_type env w.helpers h (tys es) t && well_exprs w env es
 
-  pub well_exprs : List Head → Env → Exprs → Bool
-  well_exprs hs env none = true
-  well_exprs hs env (more e es) = well_expr hs env e && well_exprs hs env es
+  pub well_exprs : Ways → Env → Exprs → Bool
+  well_exprs w env none = true
+  well_exprs w env (more e es) = well_expr w env e && well_exprs w env es
 
-  pub well_bound : List Head → Env → Maybe → Bool
-  well_bound hs env absent = true
-  well_bound hs env (present e) = WellTypes.is_whole (shape_of env (ty e)) && well_expr hs env e
+  pub well_bound : Ways → Env → Maybe → Bool
+  well_bound w env absent = true
+  well_bound w env (present e) = WellTypes.is_whole (shape_of env (ty e)) && well_expr w env e
 
-  pub well_parts : List Head → Env → Shape → Parts → Bool
-  well_parts hs env s no_parts = true
-  well_parts hs env s (part d e ps) = part_type env s d (ty e) && (well_expr hs env e && well_parts hs env s ps)
+  pub well_parts : Ways → Env → Shape → Parts → Bool
+  well_parts w env s no_parts = true
+  well_parts w env s (part d e ps) = part_type env s d (ty e) && (well_expr w env e && well_parts w env s ps)
 
 -- ---- what statements ask of expressions
 abbrev pub taken_types : List Taken → List ℕ
@@ -330,10 +436,10 @@ rights_types nothing = []
 rights_types (each es) = tys es
 rights_types (parted ts e) = taken_types ts
 
-abbrev pub well_rights : List Head → Env → Rights → Bool
-well_rights hs env nothing = true
-well_rights hs env (each es) = well_exprs hs env es
-well_rights hs env (parted ts e) = WellTypes.same_list (given_types ts) (WellTypes.values_in env (ty e)) && (WellTypes.every (λ t. takes env t.from t.variant t.into) ts && well_expr hs env e)
+abbrev pub well_rights : Ways → Env → Rights → Bool
+well_rights w env nothing = true
+well_rights w env (each es) = well_exprs w env es
+well_rights w env (parted ts e) = WellTypes.same_list (given_types ts) (WellTypes.values_in env (ty e)) && (WellTypes.every (λ t. takes env t.from t.variant t.into) ts && well_expr w env e)
 
 abbrev pub is_local : Env → ℕ → ℕ → Bool
 is_local env x t = WellTypes.is_there (slice_get env.proc.locals x) (λ l. l.ty == t)
@@ -354,37 +460,37 @@ declares env xs nothing = begins_zero env xs
 declares env [] values = true
 declares env xs values = begins env xs (rights_types values)
 
-abbrev pub well_lefts : List Head → Env → Lefts → List ℕ → Bool
-well_lefts hs env no_lefts [] = true
-well_lefts hs env (left_ e es) (t ∷ ts) = (ty e == t) && (can_be_stored (stands env e) && (well_expr hs env e && well_lefts hs env es ts))
-well_lefts hs env (dropped es) (t ∷ ts) = well_lefts hs env es ts
-well_lefts hs env _ _ = false
+abbrev pub well_lefts : Ways → Env → Lefts → List ℕ → Bool
+well_lefts w env no_lefts [] = true
+well_lefts w env (left_ e es) (t ∷ ts) = (ty e == t) && (can_be_stored (stands env e) && (well_expr w env e && well_lefts w env es ts))
+well_lefts w env (dropped es) (t ∷ ts) = well_lefts w env es ts
+well_lefts w env _ _ = false
 
-abbrev pub well_condition : List Head → Env → Maybe → Bool
-well_condition hs env absent = true
-well_condition hs env (present e) = WellTypes.is_truth (shape_of env (ty e)) && well_expr hs env e
+abbrev pub well_condition : Ways → Env → Maybe → Bool
+well_condition w env absent = true
+well_condition w env (present e) = WellTypes.is_truth (shape_of env (ty e)) && well_expr w env e
 
-abbrev pub well_subject : List Head → Env → Maybe → Bool
-well_subject hs env absent = true
-well_subject hs env (present e) = well_expr hs env e
+abbrev pub well_subject : Ways → Env → Maybe → Bool
+well_subject w env absent = true
+well_subject w env (present e) = well_expr w env e
 
 -- the type of a switch's subject; None where it has none
 abbrev pub subject_type : Maybe → Option ℕ
 subject_type absent = None
 subject_type (present e) = Some (ty e)
 
-abbrev pub item_type : Env → Option ℕ → ℕ → Bool
-item_type env None t = WellTypes.is_truth (shape_of env t)
-item_type env (Some u) t = (u == t) && is_compared (shape_of env t)
+abbrev pub item_type : Env → Option ℕ → Expr → Bool
+item_type env None e = WellTypes.is_truth (shape_of env (ty e))
+item_type env (Some u) e = (u == ty e) && (is_alike (shape_of env u) || is_nil e)
 
 abbrev pub span_type : Env → Option ℕ → ℕ → ℕ → Bool
 span_type env None t u = false
 span_type env (Some v) t u = (v == t) && ((v == u) && WellTypes.is_number (shape_of env v))
 
-abbrev pub well_items : List Head → Env → Option ℕ → Items → Bool
-well_items hs env u no_items = true
-well_items hs env u (item e is) = item_type env u (ty e) && (well_expr hs env e && well_items hs env u is)
-well_items hs env u (span e f closed is) = span_type env u (ty e) (ty f) && (well_expr hs env e && (well_expr hs env f && well_items hs env u is))
+abbrev pub well_items : Ways → Env → Option ℕ → Items → Bool
+well_items w env u no_items = true
+well_items w env u (item e is) = item_type env u e && (well_expr w env e && well_items w env u is)
+well_items w env u (span e f closed is) = span_type env u (ty e) (ty f) && (well_expr w env e && (well_expr w env f && well_items w env u is))
 
 abbrev pub names_local : Env → Option ℕ → ℕ → Bool
 names_local env None t = true
@@ -394,10 +500,10 @@ abbrev pub names_int : Env → Option ℕ → Bool
 names_int env None = true
 names_int env (Some x) = WellTypes.is_there (slice_get env.proc.locals x) (λ l. WellTypes.is_int env l.ty)
 
-abbrev pub well_over : List Head → Env → Over → Option ℕ → Bool
-well_over hs env (from_to e f closed) x = (ty e == ty f) && (WellTypes.is_whole (shape_of env (ty e)) && (names_local env x (ty e) && (well_expr hs env e && well_expr hs env f)))
-well_over hs env (through e by_place) x =
-    WellTypes.is_there (WellTypes.element_in (shape_of env (ty e))) (λ t. names_local env x t) && ((not by_place || lies_if_fixed (shape_of env (ty e)) (stands env e)) && well_expr hs env e)
+abbrev pub well_over : Ways → Env → Over → Option ℕ → Bool
+well_over w env (from_to e f closed) x = (ty e == ty f) && (WellTypes.is_whole (shape_of env (ty e)) && (names_local env x (ty e) && (well_expr w env e && well_expr w env f)))
+well_over w env (through e by_place) x =
+    WellTypes.is_there (WellTypes.element_in (shape_of env (ty e))) (λ t. names_local env x t) && ((not by_place || lies_if_fixed (shape_of env (ty e)) (stands env e)) && well_expr w env e)
 
 -- the name of a case stands for its only variant, else for the union
 abbrev pub case_type : Env → ℕ → List ℕ → ℕ → Bool
@@ -423,46 +529,50 @@ abbrev pub returns : Env → Rights → Bool
 returns env nothing = true
 returns env values = WellTypes.same_list (rights_types values) (result_types env)
 
--- ---- statements; `ls` are the labels of the loops around, `bs` those of all that a `break` may leave
+abbrev pub is_followed : Cases → Bool
+is_followed no_cases = false
+is_followed cs = true
+
+-- ---- statements
 abbrev mutual
-  pub well_stmt : List Head → Env → List ℕ → List ℕ → Stmt → Bool
-  well_stmt hs env ls bs (stmt at k) = well_form hs env ls bs k
+  pub well_stmt : Ways → Env → Stmt → Bool
+  well_stmt w env (stmt at k) = well_form w env k
 
-  pub well_form : List Head → Env → List ℕ → List ℕ → Form → Bool
-  well_form hs env ls bs (Tree.declare xs values) = declares env xs values && well_rights hs env values
-  well_form hs env ls bs (Tree.assign lefts values) = well_lefts hs env lefts (rights_types values) && well_rights hs env values
-  well_form hs env ls bs (Tree.change o e f) = (is_assigning o && binary_type env o (ty e) (ty f) (ty e)) && (can_be_stored (stands env e) && (well_expr hs env e && well_expr hs env f))
-  well_form hs env ls bs (Tree.eval e) = well_expr hs env e
-  well_form hs env ls bs (Tree.block l body) = well_stmts hs env ls (l ∷ bs) body
-  well_form hs env ls bs (Tree.if_ init e body other) = well_maybe hs env ls bs init && (WellTypes.is_truth (shape_of env (ty e)) && (well_expr hs env e && (well_stmts hs env ls bs body && well_stmts hs env ls bs other)))
-  well_form hs env ls bs (Tree.loop l init e post body) = well_maybe hs env ls bs init && (well_condition hs env e && (well_maybe hs env ls bs post && well_stmts hs env (l ∷ ls) (l ∷ bs) body))
-  well_form hs env ls bs (Tree.range l over x k body) = well_over hs env over x && (names_int env k && well_stmts hs env (l ∷ ls) (l ∷ bs) body)
-  well_form hs env ls bs (Tree.switch l init e cs) = well_maybe hs env ls bs init && (well_subject hs env e && well_cases hs env ls (l ∷ bs) (subject_type e) cs)
-  well_form hs env ls bs (Tree.type_switch l e cs) = is_union (shape_of env (ty e)) && (well_expr hs env e && well_types hs env ls (l ∷ bs) (ty e) cs)
-  well_form hs env ls bs (Tree.defer s) = well_stmt hs env ls bs s
-  well_form hs env ls bs (Tree.return values) = returns env values && well_rights hs env values
-  well_form hs env ls bs (Tree.break_ l) = WellTypes.has l bs
-  well_form hs env ls bs (Tree.continue_ l) = WellTypes.has l ls
-  well_form hs env ls bs Tree.fallthrough = true
-  well_form hs env ls bs (Tree.counted n l e body) = WellTypes.is_truth (shape_of env (ty e)) && (well_expr hs env e && well_stmts hs env (l ∷ ls) (l ∷ bs) body)
+  pub well_form : Ways → Env → Form → Bool
+  well_form w env (Tree.declare xs values) = declares env xs values && well_rights w env values
+  well_form w env (Tree.assign lefts values) = well_lefts w env lefts (rights_types values) && well_rights w env values
+  well_form w env (Tree.change o e f) = (is_assigning o && (binary_type env o (ty e) (ty f) (ty e) && operands env o e f)) && (can_be_stored (stands env e) && (well_expr w env e && well_expr w env f))
+  well_form w env (Tree.eval e) = well_expr w env e
+  well_form w env (Tree.block l body) = well_stmts (breaking l w) env body
+  well_form w env (Tree.if_ init e body other) = well_maybe w env init && (WellTypes.is_truth (shape_of env (ty e)) && (well_expr (behind_maybe init w) env e && (well_stmts (behind_maybe init w) env body && well_stmts (behind_maybe init w) env other)))
+  well_form w env (Tree.loop l init e post body) = well_maybe w env init && (well_condition (behind_maybe init w) env e && (well_maybe (behind_maybe init w) env post && well_stmts (looping l (behind_maybe init w)) env body))
+  well_form w env (Tree.range l over x k body) = well_over w env over x && (names_int env k && well_stmts (looping l w) env body)
+  well_form w env (Tree.switch l init e cs) = well_maybe w env init && (well_subject (behind_maybe init w) env e && well_cases (breaking l (behind_maybe init w)) env (subject_type e) cs)
+  well_form w env (Tree.type_switch l e cs) = is_union (shape_of env (ty e)) && (well_expr w env e && well_types (falling false (breaking l w)) env (ty e) cs)
+  well_form w env (Tree.defer s) = well_stmt (deferred w) env s
+  well_form w env (Tree.return values) = w.returns && (returns env values && well_rights w env values)
+  well_form w env (Tree.break_ l) = WellTypes.has l w.breaks
+  well_form w env (Tree.continue_ l) = WellTypes.has l w.continues
+  well_form w env Tree.fallthrough = w.falls
+  well_form w env (Tree.counted n l e body) = w.counts && (WellTypes.is_truth (shape_of env (ty e)) && (well_expr w env e && well_stmts (looping l w) env body))
 
-  pub well_maybe : List Head → Env → List ℕ → List ℕ → MaybeStmt → Bool
-  well_maybe hs env ls bs no_stmt = true
-  well_maybe hs env ls bs (some_stmt s) = well_stmt hs env ls bs s
+  pub well_maybe : Ways → Env → MaybeStmt → Bool
+  well_maybe w env no_stmt = true
+  well_maybe w env (some_stmt s) = well_stmt w env s
 
-  pub well_stmts : List Head → Env → List ℕ → List ℕ → Stmts → Bool
-  well_stmts hs env ls bs finish = true
-  well_stmts hs env ls bs (follow s ss) = well_stmt hs env ls bs s && well_stmts hs env ls bs ss
+  pub well_stmts : Ways → Env → Stmts → Bool
+  well_stmts w env finish = true
+  well_stmts w env (follow s ss) = well_stmt w env s && well_stmts (behind s w) env ss
 
-  pub well_cases : List Head → Env → List ℕ → List ℕ → Option ℕ → Cases → Bool
-  well_cases hs env ls bs u no_cases = true
-  well_cases hs env ls bs u (one_case is body rest) = well_items hs env u is && (well_stmts hs env ls bs body && well_cases hs env ls bs u rest)
-  well_cases hs env ls bs u (default_case body rest) = well_stmts hs env ls bs body && well_cases hs env ls bs u rest
+  pub well_cases : Ways → Env → Option ℕ → Cases → Bool
+  well_cases w env u no_cases = true
+  well_cases w env u (one_case is body rest) = well_items w env u is && (well_stmts (falling (is_followed rest) w) env body && well_cases w env u rest)
+  well_cases w env u (default_case body rest) = well_stmts (falling (is_followed rest) w) env body && well_cases w env u rest
 
-  pub well_types : List Head → Env → List ℕ → List ℕ → ℕ → TypeCases → Bool
-  well_types hs env ls bs u no_types = true
-  well_types hs env ls bs u (type_case vs x body rest) = names_case env u vs x && (WellTypes.every (λ n. WellTypes.is_there (WellTypes.variant_in (shape_of env u) n) (λ t. true)) vs && (well_stmts hs env ls bs body && well_types hs env ls bs u rest))
-  well_types hs env ls bs u (default_type x body rest) = names_case env u [] x && (well_stmts hs env ls bs body && well_types hs env ls bs u rest)
+  pub well_types : Ways → Env → ℕ → TypeCases → Bool
+  well_types w env u no_types = true
+  well_types w env u (type_case vs x body rest) = names_case env u vs x && (WellTypes.every (λ n. WellTypes.is_there (WellTypes.variant_in (shape_of env u) n) (λ t. true)) vs && (well_stmts w env body && well_types w env u rest))
+  well_types w env u (default_type x body rest) = names_case env u [] x && (well_stmts w env body && well_types w env u rest)
 
 -- ---- procedures: variables lie in the frame, eight bytes from its ends and from each other
 abbrev pub apart : Env → Local → Local → Bool
@@ -504,15 +614,26 @@ abbrev pub helper_bytes : List Helper → ℕ
 helper_bytes [] = 0
 helper_bytes (h ∷ hs) = h.head.frame - 128 + helper_bytes hs
 
+abbrev pub in_helpers : List Head → Ways
+in_helpers hs = record { helpers = hs; breaks = []; continues = []; falls = false; returns = true; counts = true; context = false }
+
+abbrev pub in_procedure : List Head → Bool → Ways
+in_procedure hs context = record { helpers = hs; breaks = []; continues = []; falls = false; returns = true; counts = false; context = context }
+
+-- a procedure with helpers leaves the last 128 bytes of its frame to them
+abbrev pub leaves_room : Env → List Helper → Bool
+leaves_room env [] = true
+leaves_room env (h ∷ hs) = WellTypes.every (λ l. nat_le (l.place + size_of env l.ty + 128) env.proc.frame) env.proc.locals
+
 -- a helper sees those behind it
 abbrev pub well_helpers : Env → List Helper → Bool
 well_helpers env [] = true
 well_helpers env (h ∷ hs) =
     (nat_le 128 h.head.frame && (types_known env h.head.locals && (WellTypes.every (in_helper env h.head) h.head.locals && (all_apart env h.head.locals && nat_le (h.head.parameters + h.head.results) (length h.head.locals))))) &&
-    (well_stmts (heads_of hs) (env_in env h.head) [] [] h.body && well_helpers env hs)
+    (well_stmts (in_helpers (heads_of hs)) (env_in env h.head) h.body && well_helpers env hs)
 
 abbrev pub well_body : Env → Body → Bool
-well_body env body = well_stmts (heads_of body.helpers) env [] [] body.stmts && (well_helpers env body.helpers && nat_le (helper_bytes body.helpers) 128)
+well_body env body = well_stmts (in_procedure (heads_of body.helpers) env.proc.has_context) env body.stmts && (leaves_room env body.helpers && (well_helpers env body.helpers && nat_le (helper_bytes body.helpers) 128))
 
 abbrev pub well_procedures : Tables → ℕ → List Head → List Body → Bool
 well_procedures tables f [] [] = true
@@ -528,7 +649,7 @@ outer_head = record { at = record { file = record { number = 0 }; line = 0; colu
 
 abbrev pub well_tables : Env → Bool
 well_tables env =
-    WellTypes.every (WellTypes.well_row env) env.tables.types && (WellTypes.every (λ g. length g.first == size_of env g.ty) env.tables.globals && ((length env.tables.first == 48) && nat_lt env.tables.allocator (length env.tables.types)))
+    WellTypes.every (WellTypes.well_row env) env.tables.types && (WellTypes.each_once env.tables.types && (WellTypes.every (λ g. length g.first == size_of env g.ty) env.tables.globals && ((length env.tables.first == 48) && nat_lt env.tables.allocator (length env.tables.types))))
 
 abbrev pub well : Program → Bool
 well p =

@@ -2,7 +2,7 @@
 use Rattle.std.specs.Prelude.{ℕ, suc, ◌+◌, ◌-◌, ◌*◌, ◌^◌, ◌==◌, ◌&&◌, ◌||◌, not, Bool, true, false, nat_lt, int_le, int_lt, if◌then◌else◌, ℤ, pos, ◌-ℤ◌, List, [], ◌∷◌, length, max, Option, Some, None, slice_get}
 use Rattle.odc_program.specs.declared.ops.Constant.{Constant}
 use Rattle.odc_program.specs.declared.ops.Constant.TheVariants as con
-use Rattle.odc_program.specs.Program.{Part, Shape, truth, whole, rune, text, raw, address, array, slice, dynamic, soa_array, soa_slice, soa_dynamic, fields, variants, names, procedure, several, Ty}
+use Rattle.odc_program.specs.Program.{Part, Enumerator, Shape, truth, whole, rune, text, raw, address, array, slice, dynamic, soa_array, soa_slice, soa_dynamic, fields, variants, names, procedure, several, Ty}
 use Rattle.odc_program.specs.State.{Env, size_of, align_of, shape_of, base_type}
 use Rattle.odc_program.specs.Layouts.{parts_in, round_up, storage_size, in_columns}
 use Rattle.odc_program.specs.Calling.{types_of}
@@ -37,6 +37,10 @@ abbrev pub is_whole : Shape → Bool
 is_whole (whole s) = true
 is_whole rune = true
 is_whole _ = false
+
+abbrev pub is_integer : Shape → Bool
+is_integer (whole s) = true
+is_integer _ = false
 
 abbrev pub is_number : Shape → Bool
 is_number (whole s) = true
@@ -226,9 +230,69 @@ well_shape env r (names s es) = sized r r.size r.size && is_scalar_size r.size
 well_shape env r (procedure odin ps rs) = sized r 8 8 && (known env ps && known env rs)
 well_shape env r (several ts) = known env ts && (r.size == all_sizes env 0 ts)
 
+-- ---- when two rows have one shape
+abbrev pub same_parts : List Part → List Part → Bool
+same_parts [] [] = true
+same_parts (p ∷ ps) (q ∷ qs) = (p.offset == q.offset) && ((p.ty == q.ty) && same_parts ps qs)
+same_parts _ _ = false
+
+abbrev pub same_names : List Enumerator → List Enumerator → Bool
+same_names [] [] = true
+same_names (a ∷ x) (b ∷ y) = int_le a.value b.value && (int_le b.value a.value && (same_list a.name b.name && same_names x y))
+same_names _ _ = false
+
+abbrev pub same_truth : Bool → Bool → Bool
+same_truth true x = x
+same_truth false x = not x
+
+abbrev pub same_shape : Shape → Shape → Bool
+same_shape truth truth = true
+same_shape (whole s) (whole r) = same_truth s r
+same_shape rune rune = true
+same_shape text text = true
+same_shape raw raw = true
+same_shape (address t) (address u) = t == u
+same_shape (array e n) (array f m) = (e == f) && (n == m)
+same_shape (slice e) (slice f) = e == f
+same_shape (dynamic e) (dynamic f) = e == f
+same_shape (soa_array e n) (soa_array f m) = (e == f) && (n == m)
+same_shape (soa_slice e) (soa_slice f) = e == f
+same_shape (soa_dynamic e) (soa_dynamic f) = e == f
+same_shape (fields ps) (fields qs) = same_parts ps qs
+same_shape (variants tag ts) (variants at us) = (tag == at) && same_list ts us
+same_shape (names s es) (names r fs) = same_truth s r && same_names es fs
+same_shape (procedure odin ps rs) (procedure other qs ss) = same_truth odin other && (same_list ps qs && same_list rs ss)
+same_shape (several ts) (several us) = same_list ts us
+same_shape _ _ = false
+
 -- a distinct type has the size, the alignment and the shape of its base, which is not distinct
 abbrev pub well_base : Env → Ty → Bool
-well_base env r = nat_lt r.base (length env.tables.types) && ((base_type env r.base == r.base) && sized r (size_of env r.base) (align_of env r.base))
+well_base env r = nat_lt r.base (length env.tables.types) && ((base_type env r.base == r.base) && (sized r (size_of env r.base) (align_of env r.base) && same_shape r.shape (shape_of env r.base)))
+
+-- types that are made of others without a name stand once; of the others there may be several with one shape
+abbrev pub is_made : Shape → Bool
+is_made (address t) = true
+is_made (array e n) = true
+is_made (slice e) = true
+is_made (dynamic e) = true
+is_made (soa_array e n) = true
+is_made (soa_slice e) = true
+is_made (soa_dynamic e) = true
+is_made (procedure odin ps rs) = true
+is_made (several ts) = true
+is_made _ = false
+
+-- a distinct type is its own; `n` is the number of the first row
+abbrev pub differs : Shape → ℕ → List Ty → Bool
+differs s n [] = true
+differs s n (r ∷ rs) = not ((r.base == n) && same_shape s r.shape) && differs s (n + 1) rs
+
+abbrev pub each_from : ℕ → List Ty → Bool
+each_from n [] = true
+each_from n (r ∷ rs) = (not (r.base == n) || (not (is_made r.shape) || differs r.shape (n + 1) rs)) && each_from (n + 1) rs
+
+abbrev pub each_once : List Ty → Bool
+each_once rs = each_from 0 rs
 
 abbrev pub well_row : Env → Ty → Bool
 well_row env r = well_shape env r r.shape && well_base env r

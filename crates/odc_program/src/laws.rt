@@ -351,11 +351,18 @@ pub fn second_are_well()
 
 /// More of them, with containers in columns and allocators.
 pub fn third_are_well()
-    ensures { map well (third.in_columns ∷ third.loops_in_columns ∷ third.news ∷ third.negative ∷ third.none_there ∷ third.out_of_memory ∷ third.without_context ∷ third.copies ∷ third.cut_too_far ∷ []) ≡ replicate 9 true }
+    ensures { map well (third.in_columns ∷ third.loops_in_columns ∷ third.news ∷ third.negative ∷ third.none_there ∷ third.out_of_memory ∷ third.copies ∷ third.cut_too_far ∷ ill.distinct_pointer ∷ []) ≡ replicate 9 true }
 {}
 
 /// Programs that aren't well: a call through another type, labels and variables that aren't there, variables that lie
 /// too near or past their frame, values of other types, needs, and a `main` with a result.
 pub fn are_not_well()
     ensures { map well (second.wrong_type ∷ first.defers_in_loop (tree.break_ 8) ∷ ill.too_near ∷ ill.past_frame ∷ ill.mistyped ∷ ill.unknown ∷ ill.needs_twice ∷ ill.needs_none ∷ ill.too_many ∷ ill.main_answers ∷ ill.changes_text ∷ []) ≡ replicate 11 false }
+{}
+
+/// More of them: statements that leave a deferred one or a last case, what a scope without a context asks it for, a loop
+/// of helpers outside them, operands of a wrong kind, a built value in another type's variable, a location of no file,
+/// types that stand twice or differ from their base, and a variable where a helper's lie.
+pub fn neither_are_these()
+    ensures { map well (ill.falls_out ∷ ill.returns_late ∷ ill.breaks_late ∷ ill.counts_itself ∷ ill.helper_allocates ∷ third.without_context ∷ ill.compares_slices ∷ ill.signed_count ∷ ill.lesser_rune ∷ ill.built_elsewhere ∷ ill.located_nowhere ∷ ill.distinct_of_another ∷ ill.pointer_twice ∷ ill.over_helper ∷ []) ≡ replicate 14 false }
 {}
