@@ -6,6 +6,7 @@ use Rattle.odc_text.specs.declared.check.Check.{Check}
 use Rattle.odc_text.specs.declared.check.Check.TheVariants as check
 use Rattle.odc_program.specs.Run.{pure, ◌>>=◌}
 use Rattle.odc_program.specs.Bytes.{Pointer, nil, Value, number_of, int_of, pointer_of, procedure_of, piece}
+use Rattle.odc_program.specs.Tree.{in_order}
 use Rattle.odc_program.specs.Program as q
 use Rattle.odc_program.specs.State as s
 use Rattle.odc_program.specs.Places as p
@@ -36,8 +37,8 @@ module _ (S : s.State → s.State → Type 0) (Stops : s.Leave → s.State → a
   ifs : {A : Type 0} (b : Bool) {m n m' n' : s.Do A} → Same m m' → Same n n' → Same (if b then m else n) (if b then m' else n')
   ifs b h k = a.ifs S Stops r b h k
 
-  pub calls_by_name : (x y : s.Calls) → a.SameCalls S Stops x y → (env : s.Env) (need : ℕ) {m n : s.Do (List Value)} → Same m n → Same (c.run_call x env need m) (c.run_call y env need n)
-  calls_by_name x y k env need h = thens h (λ vs. a.givens S Stops r (k.by (p.procedure_at env need) (pure tt) (pure tt) vs (c.handed env (p.procedure_at env need)) env.low (pures tt)))
+  pub calls_by_name : (x y : s.Calls) → a.SameCalls S Stops x y → (env : s.Env) (need : ℕ) (order : List ℕ) {m n : s.Do (List Value)} → Same m n → Same (c.run_call x env need order m) (c.run_call y env need order n)
+  calls_by_name x y k env need order h = thens h (λ vs. a.givens S Stops r (k.by (p.procedure_at env need) (pure tt) (pure tt) (in_order [] order vs) (c.handed env (p.procedure_at env need)) env.low (pures tt)))
 
   pub helpers : (x y : s.Calls) → a.SameCalls S Stops x y → (env : s.Env) (i : ℕ) {m n : s.Do (List Value)} → Same m n → Same (c.run_help x env i m) (c.run_help y env i n)
   helpers x y k env i h = thens h (λ vs. a.givens S Stops r (k.helps i vs env))

@@ -6,6 +6,7 @@ use Rattle.odc_text.specs.Run.{call}
 use Rattle.odc_program.specs.declared.ops.Taken.{Taken}
 use Rattle.odc_program.specs.Run.{pure, halt, ◌>>=◌, ◌>>>◌}
 use Rattle.odc_program.specs.Bytes.{Pointer, nil, Value, number_of, int_of, pointer_of, procedure_of, piece}
+use Rattle.odc_program.specs.Tree.{in_order}
 use Rattle.odc_program.specs.Program.{Shape, truth, names, variants, procedure, several}
 use Rattle.odc_program.specs.State.{Do, back, spend, leave_behind, stray, known, fail, is_live, Base, is, Context, Env, Calls, size_of, shape_of, base_type}
 use Rattle.odc_program.specs.Places.{context_value, read_truth, store_spot, gives, procedure_at}
@@ -15,9 +16,9 @@ use Rattle.odc_program.specs.Operators.{same_pointer, injected}
 abbrev pub handed : Env → ℕ → Context
 handed env f = elim (slice_get env.tables.procedures f) [ None ↦ None | Some p ↦ if p.has_context then env.context else None ]
 
-abbrev pub run_call : Calls → Env → ℕ → Do (List Value) → Do Base
-run_call calls env need arguments =
-    arguments >>= (λ vs. gives (calls.call (procedure_at env need) (pure tt) vs (handed env (procedure_at env need)) env.low))
+abbrev pub run_call : Calls → Env → ℕ → List ℕ → Do (List Value) → Do Base
+run_call calls env need order arguments =
+    arguments >>= (λ vs. gives (calls.call (procedure_at env need) (pure tt) (in_order [] order vs) (handed env (procedure_at env need)) env.low))
 
 abbrev pub run_help : Calls → Env → ℕ → Do (List Value) → Do Base
 run_help calls env h arguments = arguments >>= (λ vs. gives (calls.help h vs env))

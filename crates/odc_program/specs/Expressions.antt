@@ -5,7 +5,7 @@ use Rattle.odc_program.specs.declared.ops.Builtin.{Builtin}
 use Rattle.odc_program.specs.declared.ops.Builtin.TheVariants as b
 use Rattle.odc_program.specs.Run.{pure, ◌>>=◌}
 use Rattle.odc_program.specs.Bytes.{Value}
-use Rattle.odc_program.specs.Tree.{Expr, expr, Kind, const, local, global_, proc_value, context, field, deref, index, cut, column, call, call_value, builtin, or_return, build, unary, binary, convert, inject, assert_, test_, address_, location, help, Exprs, none, more, Maybe, absent, present, Parts, no_parts, part, ty, at_of, tys}
+use Rattle.odc_program.specs.Tree.{Expr, expr, Kind, const, local, global_, proc_value, context, field, deref, index, cut, column, call, call_value, builtin, or_return, build, unary, binary, convert, inject, assert_, test_, address_, location, help, Exprs, none, more, Maybe, absent, present, Parts, no_parts, part, ty, at_of, tys, in_order}
 use Rattle.odc_program.specs.State.{Do, tick, stray, Base, Env, Calls}
 use Rattle.odc_program.specs.Places.{as_value, read_truth, run_local, run_global, run_context, run_proc_value, run_const, run_location, run_field, run_deref, run_index, run_cut, bound, run_column, run_address, home_type, no_parts_of, run_part, run_build, gives}
 use Rattle.odc_program.specs.Operators.{run_unary, run_binary, run_convert, run_inject, run_assert, run_test}
@@ -45,9 +45,9 @@ builtin_of calls env at t b.Delete ts vs = a.run_delete calls env at ts vs
 builtin_of calls env at t b.Free ts vs = a.run_free calls env at ts vs
 builtin_of calls env at t b.FreeAll ts vs = a.run_free_all calls env at vs
 
-abbrev pub run_builtin : Calls → Env → Place → ℕ → Builtin → List ℕ → Do Base → Do (List Value) → Do Base
-run_builtin calls env at t b.Len ts first arguments = i.run_len env at ts first
-run_builtin calls env at t which ts first arguments = arguments >>= builtin_of calls env at t which ts
+abbrev pub run_builtin : Calls → Env → Place → ℕ → Builtin → List ℕ → List ℕ → Do Base → Do (List Value) → Do Base
+run_builtin calls env at t b.Len order ts first arguments = i.run_len env at ts first
+run_builtin calls env at t which order ts first arguments = arguments >>= (λ vs. builtin_of calls env at t which ts (in_order [] order vs))
 
 abbrev mutual
   pub base_of : Calls → Env → Expr → Do Base
@@ -67,9 +67,9 @@ abbrev mutual
   kind_of calls env t at (index e i) = run_index env at (ty e) (ty i) (base_of calls env e) (value_of calls env i)
   kind_of calls env t at (cut e low high) = run_cut env at (ty e) (base_of calls env e) (bound_of calls env low) (bound_of calls env high)
   kind_of calls env t at (column e n) = run_column env at t (ty e) n (base_of calls env e)
-  kind_of calls env t at (call need es) = run_call calls env need (values_of calls env es)
+  kind_of calls env t at (call need order es) = run_call calls env need order (values_of calls env es)
   kind_of calls env t at (call_value marked e es) = run_call_value calls env at marked (ty e) (value_of calls env e) (values_of calls env es)
-  kind_of calls env t at (builtin which es) = run_builtin calls env at t which (tys es) (first_of calls env at es) (values_of calls env es)
+  kind_of calls env t at (builtin which order es) = run_builtin calls env at t which order (in_order 0 order (tys es)) (first_of calls env at es) (values_of calls env es)
   kind_of calls env t at (or_return e variant) = run_or_return env at (ty e) variant (value_of calls env e)
   kind_of calls env t at (build home ps) = run_build env t home (parts_of calls env (home_type env t home) ps)
   kind_of calls env t at (unary o e) = run_unary env at t o (value_of calls env e)

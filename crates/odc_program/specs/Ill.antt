@@ -5,7 +5,7 @@ use Rattle.odc_program.specs.declared.ops.Builtin.TheVariants as b
 use Rattle.odc_program.specs.Tree as t
 use Rattle.odc_program.specs.Program.{Program, Ty, Local, Head, whole, address}
 use Rattle.odc_program.specs.Second.{with_helper, helper, call_help}
-use Rattle.odc_program.specs.Writing.{Error, Int, Text, Byte_, Nothing, Plain, Teller, num, of_type, bool, str, loc, elem, call, do_, give, let_, set, show, at_place, proc, main, program, saying, Bool_, Rune, U64, IntSlice, Rec, Location, types, at, node, calls, bin, st, block_of, zero, one, words}
+use Rattle.odc_program.specs.Writing.{Subtracting, args, Error, Int, Text, Byte_, Nothing, Plain, Teller, num, of_type, bool, str, loc, elem, call, do_, give, let_, set, show, at_place, proc, main, program, saying, Bool_, Rune, U64, IntSlice, Rec, Location, types, at, node, calls, bin, st, block_of, zero, one, words}
 
 -- two variables with no eight bytes between them
 abbrev pub too_near : Program
@@ -84,6 +84,12 @@ built_elsewhere = program (main (at_place Int 128 ∷ at_place Rec 144 ∷ []) [
 -- a location in a file that isn't there
 abbrev pub located_nowhere : Program
 located_nowhere = program (main (at_place Location 128 ∷ []) [] (let_ 0 (t.expr Location (record { file = record { number = 9 }; line = 4; column = 1 }) t.location) ∷ []) ∷ [])
+
+-- an argument goes to two parameters
+abbrev pub taken_twice : Program
+taken_twice = program (
+    main [] (1 ∷ []) (show (node Int 8 (t.call 0 (1 ∷ 1 ∷ []) (args (num 1 ∷ num 2 ∷ []))) ∷ []) ∷ []) ∷
+    proc Subtracting 2 1 (at_place Int 128 ∷ at_place Int 144 ∷ at_place Int 160 ∷ []) [] (give (loc Int 0 ∷ []) ∷ []) ∷ [])
 
 -- ---- tables
 abbrev pub with_types : List Ty → Program

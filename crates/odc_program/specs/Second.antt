@@ -6,7 +6,7 @@ use Rattle.odc_program.specs.declared.ops.Builtin.TheVariants as b
 use Rattle.odc_program.specs.Bytes.{zeros}
 use Rattle.odc_program.specs.Tree as t
 use Rattle.odc_program.specs.Program.{Head, Helper, Program}
-use Rattle.odc_program.specs.Writing.{Teller, Failing, Pointing, Truthful, BytePointer, BoolPointer, RecPointer, Bools, BoolsPointer, Raw, lit, Int, Bool_, Text, IntPointer, Either, Plain, Byte_, ByteSlice_, Buffer, Location, Error, Three, Rune, FileAnswer, FileError, IntBool, TextBool, IntProc, IntSlice, Nothing, I32, Rec, at, num, of_type, bool, str, loc, glob, node, args, calls, bin, field, elem, rec_of, context_index, st, block_of, show, let_, zero, set, call, do_, give, at_place, proc, main, types, program, saying, with_all, three, buffer, address_of, telling, glob_of}
+use Rattle.odc_program.specs.Writing.{Subtracting, Teller, Failing, Pointing, Truthful, BytePointer, BoolPointer, RecPointer, Bools, BoolsPointer, Raw, lit, Int, Bool_, Text, IntPointer, Either, Plain, Byte_, ByteSlice_, Buffer, Location, Error, Three, Rune, FileAnswer, FileError, IntBool, TextBool, IntProc, IntSlice, Nothing, I32, Rec, at, num, of_type, bool, str, loc, glob, node, args, calls, bin, field, elem, rec_of, context_index, st, block_of, show, let_, zero, set, call, do_, give, at_place, proc, main, types, program, saying, with_all, three, buffer, address_of, telling, glob_of}
 
 -- ---- loops
 abbrev pub ten_twenty_thirty : t.Expr
@@ -80,6 +80,14 @@ answered = program (
     proc Teller 0 1 (at_place Int 128 ∷ []) [] (
     st (t.defer (st (t.change op.Add (loc Int 0) (num 5)))) ∷
     st (t.loop 1 t.no_stmt t.absent t.no_stmt (block_of (st (t.defer (st (t.change op.Multiply (loc Int 0) (num 3)))) ∷ give (bin Int op.Add 30 (loc Int 0) (num 1) ∷ []) ∷ []))) ∷ []) ∷ [])
+
+-- `sub(y = f(), x = g())` with `sub` answering `x - y`: its arguments in the order of the text, each to its parameter: 5,
+-- 12 for each argument, and 13
+abbrev pub named : Program
+named = program (
+    main [] (1 ∷ 2 ∷ 3 ∷ []) (show (node Int 8 (t.call 0 (1 ∷ 0 ∷ []) (args (call Int 1 [] ∷ call Int 2 [] ∷ []))) ∷ []) ∷ []) ∷
+    proc Subtracting 2 1 (at_place Int 128 ∷ at_place Int 144 ∷ at_place Int 160 ∷ []) [] (give (bin Int op.Subtract 30 (loc Int 0) (loc Int 1) ∷ []) ∷ []) ∷
+    telling 4 10 ∷ telling 5 3 ∷ [])
 
 -- a call through nil: its argument is evaluated first
 abbrev pub nil_called : Program

@@ -17,9 +17,9 @@ abbrev mutual
   expr_kind_size (tree.index x0 x1) = expr_size x0 + expr_size x1
   expr_kind_size (tree.cut x0 x1 x2) = expr_size x0 + (maybe_size x1 + maybe_size x2)
   expr_kind_size (tree.column x0 x1) = expr_size x0
-  expr_kind_size (tree.call x0 x1) = exprs_size x1
+  expr_kind_size (tree.call x0 x1 x2) = exprs_size x2
   expr_kind_size (tree.call_value x0 x1 x2) = expr_size x1 + exprs_size x2
-  expr_kind_size (tree.builtin x0 x1) = exprs_size x1
+  expr_kind_size (tree.builtin x0 x1 x2) = exprs_size x2
   expr_kind_size (tree.or_return x0 x1) = expr_size x0
   expr_kind_size (tree.build x0 x1) = parts_size x1
   expr_kind_size (tree.unary x0 x1) = expr_size x1

@@ -1,5 +1,5 @@
 -- The clean typed tree: what a program is.
-use Rattle.std.specs.Prelude.{ℕ, Bool, List, [], ◌∷◌, Option}
+use Rattle.std.specs.Prelude.{ℕ, Bool, List, [], ◌∷◌, get_or, Option}
 use Rattle.odc_text.specs.declared.place.Place.{Place}
 use Rattle.odc_program.specs.declared.ops.Constant.{Constant}
 use Rattle.odc_program.specs.declared.ops.UnaryOp.{UnaryOp}
@@ -22,9 +22,11 @@ mutual
     index : (base : Expr) (place : Expr) → Kind
     cut : (base : Expr) (low : Maybe) (high : Maybe) → Kind
     column : (base : Expr) (n : ℕ) → Kind
-    call : (need : ℕ) (arguments : Exprs) → Kind
+    -- arguments in the order in which they are evaluated; where that is another than the order of the parameters, `order`
+    -- has for each parameter which of them it takes, from 0 on
+    call : (need : ℕ) (order : List ℕ) (arguments : Exprs) → Kind
     call_value : (marked : Bool) (callee : Expr) (arguments : Exprs) → Kind
-    builtin : (which : Builtin) (arguments : Exprs) → Kind
+    builtin : (which : Builtin) (order : List ℕ) (arguments : Exprs) → Kind
     or_return : (inner : Expr) (variant : Option ℕ) → Kind
     build : (home : Option ℕ) (parts : Parts) → Kind
     unary : (op : UnaryOp) (inner : Expr) → Kind
@@ -122,3 +124,12 @@ at_of (expr t at k) = at
 abbrev pub tys : Exprs → List ℕ
 tys none = []
 tys (more e es) = ty e ∷ tys es
+
+-- what the parameters take, from what the arguments give
+abbrev pub picked : {A : Type 0} → A → List A → List ℕ → List A
+picked a xs [] = []
+picked a xs (i ∷ is) = get_or xs i a ∷ picked a xs is
+
+abbrev pub in_order : {A : Type 0} → A → List ℕ → List A → List A
+in_order a [] xs = xs
+in_order a (i ∷ is) xs = picked a xs (i ∷ is)

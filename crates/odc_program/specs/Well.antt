@@ -10,7 +10,7 @@ use Rattle.odc_program.specs.declared.ops.Builtin.TheVariants as b
 use Rattle.odc_program.specs.declared.ops.Constant.TheVariants as con
 use Rattle.odc_text.specs.declared.place.Place.{Place}
 use Rattle.odc_program.specs.Tree
-use Rattle.odc_program.specs.Tree.{Expr, expr, Kind, Exprs, none, more, Maybe, absent, present, Parts, no_parts, part, ty, tys, Lefts, no_lefts, left_, dropped, Rights, nothing, each, parted, Items, no_items, item, span, Over, from_to, through, Stmt, stmt, Form, MaybeStmt, no_stmt, some_stmt, Stmts, finish, follow, Cases, no_cases, one_case, default_case, TypeCases, no_types, type_case, default_type}
+use Rattle.odc_program.specs.Tree.{Expr, expr, Kind, Exprs, none, more, Maybe, absent, present, Parts, no_parts, part, ty, tys, in_order, Lefts, no_lefts, left_, dropped, Rights, nothing, each, parted, Items, no_items, item, span, Over, from_to, through, Stmt, stmt, Form, MaybeStmt, no_stmt, some_stmt, Stmts, finish, follow, Cases, no_cases, one_case, default_case, TypeCases, no_types, type_case, default_type}
 use Rattle.odc_program.specs.Program.{Part, Shape, truth, text, array, slice, dynamic, soa_array, soa_slice, soa_dynamic, fields, variants, names, procedure, Local, Head, Tables, Helper, Body, Program}
 use Rattle.odc_program.specs.State.{Env, size_of, shape_of, base_type, local_of}
 use Rattle.odc_program.specs.Layouts.{parts_in}
@@ -367,6 +367,11 @@ operands env op.ShiftLeft e f = counts_bits env f
 operands env op.ShiftRight e f = counts_bits env f
 operands env _ e f = true
 
+-- each argument is taken once
+abbrev pub is_order : List ℕ → List ℕ → Bool
+is_order [] ts = true
+is_order order ts = (length order == length ts) && (WellTypes.every (WellTypes.below (length ts)) order && WellTypes.once order)
+
 -- the path of a location is there
 abbrev pub is_located : Env → Place → Kind → Bool
 is_located env at Tree.location = nat_lt (env.tables.files + at.file.number) (length env.tables.literals)
@@ -395,9 +400,9 @@ abbrev mutual
   well_kind w env t (Tree.index e i) = WellTypes.is_whole (shape_of env (ty i)) && (index_type env (shape_of env (ty e)) t && (well_expr w env e && well_expr w env i))
   well_kind w env t (Tree.cut e low high) = cut_type env (shape_of env (ty e)) (shape_of env t) && (lies_if_fixed (shape_of env (ty e)) (stands env e) && (well_expr w env e && (well_bound w env low && well_bound w env high)))
   well_kind w env t (Tree.column e n) = column_type env (shape_of env (ty e)) n (shape_of env t) && well_expr w env e
-  well_kind w env t (Tree.call n es) = need_of env n (λ p. (w.context || not p.has_context) && call_type env (shape_of env p.ty) (tys es) t) && well_exprs w env es
+  well_kind w env t (Tree.call n order es) = need_of env n (λ p. (w.context || not p.has_context) && call_type env (shape_of env p.ty) (in_order 0 order (tys es)) t) && (is_order order (tys es) && well_exprs w env es)
   well_kind w env t (Tree.call_value marked e es) = (marked || (w.context || not (is_odin (shape_of env (ty e))))) && (call_type env (shape_of env (ty e)) (tys es) t && (well_expr w env e && well_exprs w env es))
-  well_kind w env t (Tree.builtin which es) = (w.context || not (asks_context env which (tys es))) && (builtin_type env which (tys es) t && well_exprs w env es)
+  well_kind w env t (Tree.builtin which order es) = (w.context || not (asks_context env which (tys es))) && (builtin_type env which (in_order 0 order (tys es)) t && (is_order order (tys es) && well_exprs w env es))
   well_kind w env t (Tree.or_return e variant) = w.returns && (or_return_type env t variant (WellTypes.values_in env (ty e)) && well_expr w env e)
   well_kind w env t (Tree.build home ps) = build_type env t home && well_parts w env (shape_of env (home_type env t home)) ps
   well_kind w env t (Tree.unary o e) = unary_type env o (ty e) t && well_expr w env e

@@ -195,6 +195,10 @@ Bools = 50
 abbrev pub BoolsPointer : ℕ
 BoolsPointer = 51
 
+-- `proc(x, y: int) -> int`
+abbrev pub Subtracting : ℕ
+Subtracting = 52
+
 abbrev pub types : List Ty
 types =
     one 8 Int (whole true) ∷
@@ -249,6 +253,7 @@ types =
     words 1 RecPointer (address Rec) ∷
     one 1 Bools (array Bool_ 1) ∷
     words 1 BoolsPointer (address Bools) ∷
+    words 1 Subtracting (procedure true (Int ∷ Int ∷ []) (Int ∷ [])) ∷
     []
 
 -- ---- nodes; a constant and a name stand in column 1, others where they say
@@ -281,7 +286,7 @@ args [] = t.none
 args (e ∷ es) = t.more e (args es)
 
 abbrev pub calls : ℕ → Builtin → ℕ → List t.Expr → t.Expr
-calls ty which column es = node ty column (t.builtin which (args es))
+calls ty which column es = node ty column (t.builtin which [] (args es))
 
 abbrev pub bin : ℕ → BinaryOp → ℕ → t.Expr → t.Expr → t.Expr
 bin ty op column a b = node ty column (t.binary op a b)
@@ -322,7 +327,7 @@ abbrev pub set : t.Expr → t.Expr → t.Stmt
 set e v = st (t.assign (t.left_ e t.no_lefts) (t.each (args (v ∷ []))))
 
 abbrev pub call : ℕ → ℕ → List t.Expr → t.Expr
-call ty need es = node ty 8 (t.call need (args es))
+call ty need es = node ty 8 (t.call need [] (args es))
 
 abbrev pub do_ : t.Expr → t.Stmt
 do_ e = st (t.eval e)

@@ -119,6 +119,11 @@ pub fn wrong_type()
     ensures { Prints second.wrong_type (codes "4\n") (strayed (at 77)) 15 1 }
 {}
 
+/// Arguments are evaluated in the order of the text, and go to the parameters that their names say.
+pub fn named()
+    ensures { Prints second.named (codes "4\n5\n-7\n") (exited 0) 42 3 }
+{}
+
 /// The right side of an assignment comes before its place.
 pub fn sides()
     ensures { Prints second.sides (codes "2\n1\n5\n") (exited 0) 40 2 }
@@ -346,7 +351,7 @@ pub fn first_are_well()
 
 /// More of them, with loops, calls, helpers and files.
 pub fn second_are_well()
-    ensures { map well (second.by_place ∷ second.live ∷ second.counted ∷ second.endless ∷ second.switched ∷ second.spans ∷ second.variant ∷ second.tested ∷ second.answered ∷ second.nil_called ∷ second.sides ∷ second.header_later ∷ second.deep ∷ second.left_early ∷ second.helped ∷ second.counts_down 3 ∷ second.short ∷ second.bits ∷ second.wide_shifts ∷ second.texts ∷ second.converted ∷ second.extremes ∷ second.truth ∷ second.truth_element ∷ second.padded ∷ second.located ∷ second.exits ∷ second.panics ∷ second.asserts ∷ second.copies_input ∷ second.dangling ∷ second.writes_literal ∷ []) ≡ replicate 32 true }
+    ensures { map well (second.by_place ∷ second.live ∷ second.counted ∷ second.endless ∷ second.switched ∷ second.spans ∷ second.variant ∷ second.tested ∷ second.answered ∷ second.nil_called ∷ second.named ∷ second.sides ∷ second.header_later ∷ second.deep ∷ second.left_early ∷ second.helped ∷ second.counts_down 3 ∷ second.short ∷ second.bits ∷ second.wide_shifts ∷ second.texts ∷ second.converted ∷ second.extremes ∷ second.truth ∷ second.truth_element ∷ second.padded ∷ second.located ∷ second.exits ∷ second.panics ∷ second.asserts ∷ second.copies_input ∷ second.dangling ∷ second.writes_literal ∷ []) ≡ replicate 33 true }
 {}
 
 /// More of them, with containers in columns and allocators.
@@ -364,5 +369,5 @@ pub fn are_not_well()
 /// of helpers outside them, operands of a wrong kind, a built value in another type's variable, a location of no file,
 /// types that stand twice or differ from their base, and a variable where a helper's lie.
 pub fn neither_are_these()
-    ensures { map well (ill.falls_out ∷ ill.returns_late ∷ ill.breaks_late ∷ ill.counts_itself ∷ ill.helper_allocates ∷ third.without_context ∷ ill.compares_slices ∷ ill.signed_count ∷ ill.lesser_rune ∷ ill.built_elsewhere ∷ ill.located_nowhere ∷ ill.distinct_of_another ∷ ill.pointer_twice ∷ ill.over_helper ∷ []) ≡ replicate 14 false }
+    ensures { map well (ill.falls_out ∷ ill.returns_late ∷ ill.breaks_late ∷ ill.counts_itself ∷ ill.helper_allocates ∷ third.without_context ∷ ill.compares_slices ∷ ill.signed_count ∷ ill.lesser_rune ∷ ill.built_elsewhere ∷ ill.located_nowhere ∷ ill.distinct_of_another ∷ ill.pointer_twice ∷ ill.over_helper ∷ ill.taken_twice ∷ []) ≡ replicate 15 false }
 {}

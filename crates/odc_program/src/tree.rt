@@ -35,10 +35,13 @@ pub enum TExprKind {
     Cut(TExpr, Option<TExpr>, Option<TExpr>),
     /// A column of a `#soa` container.
     Column(TExpr, u32),
-    Call(u32, Vec<TExpr>),
+    /// A call by name: the need, and the arguments in the order in which they are evaluated. Where that is another
+    /// than the order of the parameters, the list between has for each parameter which of them it takes.
+    Call(u32, Vec<u32>, Vec<TExpr>),
     /// A call through a value; marked where it is an allocator call of a built-in.
     CallValue(bool, TExpr, Vec<TExpr>),
-    Builtin(Builtin, Vec<TExpr>),
+    /// A call of a built-in procedure, with its arguments likewise.
+    Builtin(Builtin, Vec<u32>, Vec<TExpr>),
     /// `or_return`, with the variant that the last value becomes in the result, where that is a union.
     OrReturn(TExpr, Option<u32>),
     /// A value of parts, in the storage of a local where it has one of its own.
