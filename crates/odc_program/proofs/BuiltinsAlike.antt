@@ -1,6 +1,6 @@
 -- Built-in procedures that call no allocator keep what the primitives keep.
-use Rattle.std.proofs.Common.{ℕ, Bool, true, List, [], ◌∷◌}
-use Rattle.std.specs.Prelude.{ℤ, pos, Option, if◌then◌else◌, ◌+◌, ◌*◌, ◌-◌, ◌&&◌, int_le, int_lt, ◌-ℤ◌, length, map, drop}
+use Rattle.std.proofs.Common.{ℕ, zero, suc, Bool, true, List, [], ◌∷◌}
+use Rattle.std.specs.Prelude.{◌||◌, ℤ, pos, Option, if◌then◌else◌, ◌+◌, ◌*◌, ◌-◌, ◌&&◌, int_le, int_lt, ◌-ℤ◌, length, map, drop}
 use Rattle.std.specs.Ordering.{int_eq}
 use Rattle.odc_text.specs.declared.place.Place.{Place}
 use Rattle.odc_text.specs.declared.check.Check.{Check}
@@ -8,6 +8,7 @@ use Rattle.odc_text.specs.declared.check.Check.TheVariants as check
 use Rattle.odc_text.specs.Run.{err, exited}
 use Rattle.odc_program.specs.Run.{pure, ◌>>=◌}
 use Rattle.odc_program.specs.Bytes.{Pointer, nil, to, Value, number_of, numbers, residue, int_bytes, int_of, pointer_of, piece}
+use Rattle.odc_program.specs.Program as q
 use Rattle.odc_program.specs.Layouts as l
 use Rattle.odc_program.specs.State as s
 use Rattle.odc_program.specs.Places as p
@@ -86,8 +87,16 @@ module _ (S : s.State → s.State → Type 0) (Stops : s.Leave → s.State → a
   exits at vs = thens (knowns at (int_of true 8 (i.arg vs 0))) (λ z. a.halted S Stops r (s.ends (exited (residue 256 z))))
 
   -- ---- containers and integers
+  lengths_read : (env : s.Env) (at : Place) (x : l.Layout) (b : s.Base) → Same (i.read_length env at x b) (i.read_length env at x b)
+  lengths_read env at x b = thens (pl.read_bases S Stops r env at (l.address_bytes x + 8) b) (λ v. pures (i.length_of x v))
+
+  length_ins : (env : s.Env) (at : Place) (x : l.Layout) (y : q.Shape) (b : s.Base) → Same (i.length_in env at x y b) (i.length_in env at x y b)
+  length_ins env at x (q.array e n) b = pures _
+  length_ins env at x (q.soa_array e n) b = pures _
+  length_ins env at x _ b = lengths_read env at x b
+
   pub lens : (env : s.Env) (at : Place) (ts : List ℕ) {m n : s.Do s.Base} → Same m n → Same (i.run_len env at ts m) (i.run_len env at ts n)
-  lens env at ts h = thens h (λ b. thens (pl.elements S Stops r env at (i.arg_type ts 0) b) (λ es. pures _))
+  lens env at ts h = thens h (length_ins env at (l.layout_of env (i.arg_type ts 0)) (s.shape_of env (i.arg_type ts 0)))
 
   pub lessers : (env : s.Env) (at : Place) (b : Bool) (t : ℕ) (vs : List Value) → Same (i.run_lesser env at b t vs) (i.run_lesser env at b t vs)
   lessers env at b t vs = thens (pl.wholes S Stops r env at t (i.arg vs 0)) (λ y. thens (pl.wholes S Stops r env at t (i.arg vs 1)) (λ z. thens (r.spends 1) (λ _. pures (s.is (if int_lt (if b then z else y) (if b then y else z) then i.arg vs 0 else i.arg vs 1)))))
@@ -96,7 +105,7 @@ module _ (S : s.State → s.State → Type 0) (Stops : s.Leave → s.State → a
   absolutes env at t vs = thens (pl.wholes S Stops r env at t (i.arg vs 0)) (λ z. pures _)
 
   pub byte_slices : (at : Place) (vs : List Value) → Same (i.run_byte_slice at vs) (i.run_byte_slice at vs)
-  byte_slices at vs = thens (knowns at (int_of true 8 (i.arg vs 1))) (λ n. ifs (int_lt n (pos 0)) (fails check.Length at) (pures _))
+  byte_slices at vs = thens (knowns at (int_of true 8 (i.arg vs 1))) (λ n. ifs (int_lt n (pos 0) || int_lt (pos i.length_limit) n) (fails check.Length at) (pures _))
 
   -- ---- elements
   pub touches : (x : l.Layout) → Same (i.touched x) (i.touched x)
@@ -139,10 +148,13 @@ module _ (S : s.State → s.State → Type 0) (Stops : s.Leave → s.State → a
       thens (pointeds at (i.arg vs 0)) (λ x. thens (pl.elements S Stops r env at (i.target_of env (i.arg_type ts 0)) (s.lies (s.spot x)))
       (λ es. popped_ones env at (i.target_of env (i.arg_type ts 0)) (l.layout_of env (i.target_of env (i.arg_type ts 0))).size x es))
 
+  shifts_in : (at : Place) (d e n size : ℕ) (v : Value) → Same (i.shift_cell at d e n size v) (i.shift_cell at d e n size v)
+  shifts_in at d e zero size v = pures tt
+  shifts_in at d e (suc n) size v = thens (knowns at (pointer_of (piece 0 8 v))) (λ y. thens (behinds at y (e * size)) (λ z. thens (behinds at y (d * size)) (λ z'. byte_moves at z' z (suc n * size))))
+
   cell_shifts : (at : Place) (x : l.Layout) (d e n : ℕ) (cs : List l.Cell) (v : Value) → Same (i.shift_cells at x d e n cs v) (i.shift_cells at x d e n cs v)
   cell_shifts at x d e n [] v = pures tt
-  cell_shifts at x d e n (c ∷ cs) v =
-      thens (thens (touches x) (λ _. knowns at (pointer_of (piece 0 8 v)))) (λ y. thens (behinds at y (e * c.size)) (λ z. thens (behinds at y (d * c.size)) (λ z'. thens (byte_moves at z' z (n * c.size)) (λ _. cell_shifts at x d e n cs (drop 8 v)))))
+  cell_shifts at x d e n (c ∷ cs) v = thens (thens (touches x) (λ _. shifts_in at d e n c.size v)) (λ _. cell_shifts at x d e n cs (drop 8 v))
 
   removes_at : (at : Place) (x : l.Layout) (b : Bool) (y : Pointer) (n k : ℕ) (v : Value) → Same (i.remove_at at x b y n k v) (i.remove_at at x b y n k v)
   removes_at at x b y n k v =

@@ -10,7 +10,7 @@ use Rattle.odc_program.specs.Layouts.{Cell, Column, Layout, layout_of, columns_o
 use Rattle.odc_program.specs.Places.{context_value, location_value}
 use Rattle.odc_program.specs.Operators.{same_pointer}
 use Rattle.odc_program.specs.Calling.{ask, has_type}
-use Rattle.odc_program.specs.Builtins.{arg, arg_type, touched, move_bytes, length_word, target_of, pointed, write_length}
+use Rattle.odc_program.specs.Builtins.{length_limit, arg, arg_type, touched, move_bytes, length_word, target_of, pointed, write_length}
 
 -- ---- one call
 -- what an allocator answers: memory, and an error that isn't 0
@@ -82,11 +82,8 @@ abbrev pub allocator_in : Env → List Value → Value
 allocator_in env [] = context_allocator env
 allocator_in env (a ∷ rest) = a
 
--- ---- lengths
-abbrev pub length_limit : ℕ
-length_limit = 2 ^ 62
-
 -- not more elements or bytes than any container may have
+-- ---- lengths
 abbrev pub fits_limit : Layout → ℕ → Bool
 fits_limit l n = nat_le n length_limit && nat_le (storage_size n l) length_limit
 
@@ -281,7 +278,7 @@ abbrev pub reserve_room : Calls → Env → Place → Layout → Own → ℕ →
 reserve_room calls env at l own n = if nat_le n own.room then pure (record { starts = own.starts; error = 0 }) else grow calls env at l own own.count n
 
 abbrev pub reserve_in : Calls → Env → Place → Layout → Value → Value → Do Base
-reserve_in calls env at l w v = int_arg at v >>= (λ z. own_of at l w >>= (λ own. wanted at z >>= (λ n. reserve_room calls env at l own n >>= (λ g. error_alone g.error))))
+reserve_in calls env at l w v = int_arg at v >>= (λ z. wanted at z >>= (λ n. own_of at l w >>= (λ own. reserve_room calls env at l own n >>= (λ g. error_alone g.error))))
 
 abbrev pub run_reserve : Calls → Env → Place → List ℕ → List Value → Do Base
 run_reserve calls env at ts vs = reserve_in calls env at (layout_of env (target_of env (arg_type ts 0))) (arg vs 0) (arg vs 1)
@@ -302,7 +299,7 @@ abbrev pub resize_room : Calls → Env → Place → Layout → Own → ℕ → 
 resize_room calls env at l own n = if nat_le n own.room then lengthened at l own n else grow calls env at l own n n
 
 abbrev pub resize_in : Calls → Env → Place → Layout → Value → Value → Do Base
-resize_in calls env at l w v = int_arg at v >>= (λ z. own_of at l w >>= (λ own. wanted at z >>= (λ n. resize_room calls env at l own n >>= resized at l own n)))
+resize_in calls env at l w v = int_arg at v >>= (λ z. wanted at z >>= (λ n. own_of at l w >>= (λ own. resize_room calls env at l own n >>= resized at l own n)))
 
 abbrev pub run_resize : Calls → Env → Place → List ℕ → List Value → Do Base
 run_resize calls env at ts vs = resize_in calls env at (layout_of env (target_of env (arg_type ts 0))) (arg vs 0) (arg vs 1)

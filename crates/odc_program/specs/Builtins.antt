@@ -1,12 +1,12 @@
 -- Built-in procedures that call no allocator, and those of `core:os`.
-use Rattle.std.specs.Prelude.{ℕ, ◌+◌, ◌-◌, ◌*◌, ◌^◌, ◌&&◌, Bool, true, int_lt, int_le, if◌then◌else◌, ℤ, pos, ◌-ℤ◌, List, [], ◌∷◌, ◌++◌, length, map, drop, get_or}
+use Rattle.std.specs.Prelude.{ℕ, zero, suc, ◌||◌, ◌+◌, ◌-◌, ◌*◌, ◌^◌, ◌&&◌, Bool, true, int_lt, int_le, if◌then◌else◌, ℤ, pos, ◌-ℤ◌, List, [], ◌∷◌, ◌++◌, length, map, drop, get_or}
 use Rattle.std.specs.Ordering.{int_eq}
 use Rattle.odc_text.specs.declared.place.Place.{Place}
 use Rattle.odc_text.specs.declared.check.Check.TheVariants as check
 use Rattle.odc_text.specs.Run.{exited, err}
 use Rattle.odc_program.specs.Run.{pure, halt, ◌>>=◌, ◌>>>◌}
 use Rattle.odc_program.specs.Bytes.{Block, region, Pointer, nil, to, Value, number_of, numbers, residue, int_bytes, int_of, pointer_bytes, pointer_of, piece}
-use Rattle.odc_program.specs.Program.{Shape, address}
+use Rattle.odc_program.specs.Program.{Shape, address, array, soa_array}
 use Rattle.odc_program.specs.State.{Do, ends, spend, leave_behind, known, fail, read_at, write_to, behind, has_room, take_input, Base, is, lies, spot, Env, size_of, shape_of}
 use Rattle.odc_program.specs.Layouts.{Cell, Layout, layout_of, address_bytes}
 use Rattle.odc_program.specs.Places.{read_truth, whole_of, natural, Elements, elements_of, element, read_base}
@@ -60,9 +60,20 @@ run_write env at t vs =
 abbrev pub run_exit : Place → List Value → Do Base
 run_exit at vs = known at (int_of true 8 (arg vs 0)) >>= (λ z. halt (ends (exited (residue 256 z))))
 
--- ---- sizes and addresses of containers; `len` doesn't read an array
+-- ---- sizes and addresses of containers; `len` doesn't read an array, and of a header it takes the one word
+abbrev pub length_of : Layout → Value → Base
+length_of l v = is (piece (address_bytes l) 8 v)
+
+abbrev pub read_length : Env → Place → Layout → Base → Do Base
+read_length env at l b = read_base env at (address_bytes l + 8) b >>= (λ v. pure (length_of l v))
+
+abbrev pub length_in : Env → Place → Layout → Shape → Base → Do Base
+length_in env at l (array e n) b = pure (is (int_bytes 8 (pos n)))
+length_in env at l (soa_array e n) b = pure (is (int_bytes 8 (pos n)))
+length_in env at l s b = read_length env at l b
+
 abbrev pub run_len : Env → Place → List ℕ → Do Base → Do Base
-run_len env at ts m = m >>= (λ b. elements_of env at (arg_type ts 0) b >>= (λ es. pure (is (int_bytes 8 es.count))))
+run_len env at ts m = m >>= length_in env at (layout_of env (arg_type ts 0)) (shape_of env (arg_type ts 0))
 
 abbrev pub run_cap : Env → List ℕ → List Value → Do Base
 run_cap env ts vs = pure (is (piece (address_bytes (layout_of env (arg_type ts 0)) + 8) 8 (arg vs 0)))
@@ -94,8 +105,12 @@ temp_block = region 1744830464 1
 abbrev pub run_region : Block → ℕ → Do Base
 run_region b n = pure (is (pointer_bytes (to b 0) ++ int_bytes 8 (pos n)))
 
+-- the most elements or bytes
+abbrev pub length_limit : ℕ
+length_limit = 2 ^ 62
+
 abbrev pub run_byte_slice : Place → List Value → Do Base
-run_byte_slice at vs = known at (int_of true 8 (arg vs 1)) >>= (λ n. if int_lt n (pos 0) then fail check.Length at else pure (is (arg vs 0 ++ arg vs 1)))
+run_byte_slice at vs = known at (int_of true 8 (arg vs 1)) >>= (λ n. if int_lt n (pos 0) || int_lt (pos length_limit) n then fail check.Length at else pure (is (arg vs 0 ++ arg vs 1)))
 
 -- ---- elements of dynamic arrays and slices, column by column
 -- a column of its own costs one
@@ -156,12 +171,15 @@ run_pop env at ts vs =
     pointed at (arg vs 0) >>= (λ p. elements_of env at (target_of env (arg_type ts 0)) (lies (spot p)) >>=
     popped env at (target_of env (arg_type ts 0)) (layout_of env (target_of env (arg_type ts 0))).size p)
 
--- n elements from one index of each column to another
+-- n elements from one index of a column to another; no address is made for none
+abbrev pub shift_cell : Place → ℕ → ℕ → ℕ → ℕ → Value → Do (Unit {0})
+shift_cell at to_ from zero size v = pure tt
+shift_cell at to_ from (suc n) size v =
+    known at (pointer_of (piece 0 8 v)) >>= (λ p. behind at p (from * size) >>= (λ q. behind at p (to_ * size) >>= (λ r. move_bytes at r q (suc n * size))))
+
 abbrev pub shift_cells : Place → Layout → ℕ → ℕ → ℕ → List Cell → Value → Do (Unit {0})
 shift_cells at l to_ from n [] v = pure tt
-shift_cells at l to_ from n (c ∷ cs) v =
-    touched l >>> known at (pointer_of (piece 0 8 v)) >>= (λ p. behind at p (from * c.size) >>= (λ q. behind at p (to_ * c.size) >>= (λ r.
-    move_bytes at r q (n * c.size) >>> shift_cells at l to_ from n cs (drop 8 v))))
+shift_cells at l to_ from n (c ∷ cs) v = touched l >>> shift_cell at to_ from n c.size v >>> shift_cells at l to_ from n cs (drop 8 v)
 
 abbrev pub remove_at : Place → Layout → Bool → Pointer → ℕ → ℕ → Value → Do Base
 remove_at at l ordered p n i v =

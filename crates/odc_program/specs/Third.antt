@@ -151,6 +151,14 @@ news = with_all (buffer ∷ []) [] (first_of 1) (
 abbrev pub negative : Program
 negative = program (main [] [] (do_ (calls IntSlice b.Make 20 (of_type Int (negsuc 0) ∷ [])) ∷ []) ∷ [])
 
+-- a negative room stops before the array is asked, though that is nil: 4
+abbrev pub negative_room : Program
+negative_room = program (main [] [] (do_ (calls Error b.Reserve 20 (nil_of ToIntArray ∷ of_type Int (negsuc 0) ∷ [])) ∷ []) ∷ [])
+
+-- and a slice of raw memory that is too long: 4
+abbrev pub too_long : Program
+too_long = program (main [] [] (do_ (calls ByteSlice_ b.ByteSlice 20 (nil_of Raw ∷ num 4611686018427387905 ∷ [])) ∷ []) ∷ [])
+
 -- an allocator without a procedure answers without a call: 6, and 4 + 5 + 21
 abbrev pub none_there : Program
 none_there = program (main (at_place IntSlice 128 ∷ at_place Error 152 ∷ []) []

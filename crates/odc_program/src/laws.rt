@@ -319,6 +319,16 @@ pub fn negative()
     ensures { Prints third.negative [] (checked check.Length (at 20)) 3 0 }
 {}
 
+/// Lengths are checked first: a negative room stops, though the array is nil.
+pub fn negative_room()
+    ensures { Prints third.negative_room [] (checked check.Length (at 20)) 4 0 }
+{}
+
+/// A slice of raw memory has at most 2^62 bytes.
+pub fn too_long()
+    ensures { Prints third.too_long [] (checked check.Length (at 20)) 4 0 }
+{}
+
 /// An allocator without a procedure answers without a call.
 pub fn none_there()
     ensures { Prints third.none_there (codes "Mode_Not_Implemented\n") (exited 0) 36 0 }
@@ -356,7 +366,7 @@ pub fn second_are_well()
 
 /// More of them, with containers in columns and allocators.
 pub fn third_are_well()
-    ensures { map well (third.in_columns ∷ third.loops_in_columns ∷ third.news ∷ third.negative ∷ third.none_there ∷ third.out_of_memory ∷ third.copies ∷ third.cut_too_far ∷ ill.distinct_pointer ∷ []) ≡ replicate 9 true }
+    ensures { map well (third.in_columns ∷ third.loops_in_columns ∷ third.news ∷ third.negative ∷ third.negative_room ∷ third.too_long ∷ third.none_there ∷ third.out_of_memory ∷ third.copies ∷ third.cut_too_far ∷ ill.distinct_pointer ∷ []) ≡ replicate 11 true }
 {}
 
 /// Programs that aren't well: a call through another type, labels and variables that aren't there, variables that lie
