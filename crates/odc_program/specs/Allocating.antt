@@ -1,5 +1,5 @@
 -- The built-in procedures that call allocators: which one, with what, and what follows each answer.
-use Rattle.std.specs.Prelude.{ℕ, zero, suc, ◌+◌, ◌-◌, ◌*◌, ◌^◌, ◌==◌, ◌&&◌, Bool, true, false, nat_le, nat_lt, int_lt, if◌then◌else◌, ℤ, pos, negsuc, List, [], ◌∷◌, ◌++◌, length, max, min, drop, Option, Some, None}
+use Rattle.std.specs.Prelude.{ℕ, zero, suc, ◌+◌, ◌-◌, ◌*◌, ◌==◌, ◌&&◌, Bool, true, false, nat_le, nat_lt, int_lt, if◌then◌else◌, ℤ, pos, negsuc, List, [], ◌∷◌, ◌++◌, length, max, min, drop, Option, Some, None}
 use Rattle.odc_text.specs.declared.place.Place.{Place}
 use Rattle.odc_text.specs.declared.check.Check.TheVariants as check
 use Rattle.odc_program.specs.Run.{pure, ◌>>=◌, ◌>>>◌}

@@ -3,7 +3,7 @@ use Rattle.std.specs.Prelude.{ℕ, ◌++◌, pos, Bool, true, false, List, [], �
 use Rattle.odc_program.specs.declared.ops.BinaryOp.TheVariants as op
 use Rattle.odc_program.specs.declared.ops.Builtin.TheVariants as b
 use Rattle.odc_program.specs.Tree as t
-use Rattle.odc_program.specs.Program.{Program, Ty, Local, Head, whole, address}
+use Rattle.odc_program.specs.Program.{Program, Ty, Head, whole, address}
 use Rattle.odc_program.specs.Second.{with_helper, helper, call_help}
 use Rattle.odc_program.specs.Writing.{Subtracting, args, Error, Int, Text, Byte_, Nothing, Plain, Teller, num, of_type, bool, str, loc, elem, call, do_, give, let_, set, show, at_place, proc, main, program, saying, Bool_, Rune, U64, IntSlice, Rec, Location, types, at, node, calls, bin, st, block_of, zero, one, words}
 

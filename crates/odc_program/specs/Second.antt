@@ -220,6 +220,10 @@ padded = program (main (at_place Rec 128 ∷ at_place IntPointer 152 ∷ []) []
 abbrev pub located : Program
 located = saying (codes "main.odin" ∷ []) (main [] [] (show (field I32 (node Location 7 t.location) 1 ∷ []) ∷ []) ∷ [])
 
+-- `print(1, true)` ends no line: 2, 2 and 6
+abbrev pub prints : Program
+prints = program (main [] [] (do_ (calls Nothing b.Print 20 (num 1 ∷ bool true ∷ [])) ∷ []) ∷ [])
+
 -- ---- stopping and files
 abbrev pub deferred_one : t.Stmt
 deferred_one = st (t.defer (show (num 1 ∷ [])))
@@ -236,6 +240,10 @@ asserts = program (main [] [] (do_ (calls Nothing b.Assert 20 (bool false ∷ []
 
 abbrev pub part_of_buffer : t.Expr → t.Expr
 part_of_buffer n = node ByteSlice_ 30 (t.cut (glob Buffer 0) (t.present (num 0)) (t.present n))
+
+-- `os.write(2, buf[0:2])` goes to the second descriptor: 7, 1 and 2
+abbrev pub complains : Program
+complains = with_all (buffer ∷ []) [] (zeros 48) (main [] [] (do_ (calls FileAnswer b.Write 20 (num 2 ∷ part_of_buffer (num 2) ∷ [])) ∷ []) ∷ [])
 
 -- `n, e := os.read(0, buf[0:4]); os.write(1, buf[0:n]); println(n)`: 10, 11 and 6
 abbrev pub copies_input : Program

@@ -214,6 +214,16 @@ pub fn exits()
     ensures { Prints second.exits [] (exited 44) 4 0 }
 {}
 
+/// `print` ends no line.
+pub fn prints()
+    ensures { Prints second.prints (codes "1 true") (exited 0) 10 0 }
+{}
+
+/// What is written to the second descriptor stands in the log as such.
+pub fn complains()
+    ensures { Leaves second.complains (map err (replicate 2 0)) (exited 0) 10 0 }
+{}
+
 /// `panic` writes to the second descriptor and stops.
 pub fn panics()
     ensures { Leaves second.panics (map err (codes "no\n")) (checked check.Panic (at 20)) 8 0 }
@@ -361,7 +371,7 @@ pub fn first_are_well()
 
 /// More of them, with loops, calls, helpers and files.
 pub fn second_are_well()
-    ensures { map well (second.by_place ∷ second.live ∷ second.counted ∷ second.endless ∷ second.switched ∷ second.spans ∷ second.variant ∷ second.tested ∷ second.answered ∷ second.nil_called ∷ second.named ∷ second.sides ∷ second.header_later ∷ second.deep ∷ second.left_early ∷ second.helped ∷ second.counts_down 3 ∷ second.short ∷ second.bits ∷ second.wide_shifts ∷ second.texts ∷ second.converted ∷ second.extremes ∷ second.truth ∷ second.truth_element ∷ second.padded ∷ second.located ∷ second.exits ∷ second.panics ∷ second.asserts ∷ second.copies_input ∷ second.dangling ∷ second.writes_literal ∷ []) ≡ replicate 33 true }
+    ensures { map well (second.by_place ∷ second.live ∷ second.counted ∷ second.endless ∷ second.switched ∷ second.spans ∷ second.variant ∷ second.tested ∷ second.answered ∷ second.nil_called ∷ second.named ∷ second.sides ∷ second.header_later ∷ second.deep ∷ second.left_early ∷ second.helped ∷ second.counts_down 3 ∷ second.short ∷ second.bits ∷ second.wide_shifts ∷ second.texts ∷ second.converted ∷ second.extremes ∷ second.truth ∷ second.truth_element ∷ second.padded ∷ second.located ∷ second.prints ∷ second.complains ∷ second.exits ∷ second.panics ∷ second.asserts ∷ second.copies_input ∷ second.dangling ∷ second.writes_literal ∷ []) ≡ replicate 35 true }
 {}
 
 /// More of them, with containers in columns and allocators.
