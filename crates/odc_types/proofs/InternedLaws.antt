@@ -1,9 +1,8 @@
 -- In a table that has each type once, two types of one identity are one type by number.
 use Rattle.std.proofs.Common.{Result, Ok, Err, IfOk, OnOk, OnErr, get_or, ◌≡◌, ℕ, zero, suc, ◌<◌, ◌≤◌, List, [], ◌∷◌, ◌++◌, Option, Some, None, length, slice_get, slice_set, refl, sym, ◌∙◌, ap, subst, arith, All, inl, inr, ◌⊎◌, map}
-use Rattle.std.proofs.lemmas.Bool.{cases_lt, cases_eq}
 use Rattle.std.proofs.lemmas.List.{length-append, length-set, length-map}
 use Rattle.std.proofs.lemmas.List.Elements.{All-head, All-tail, All-weaker}
-use Rattle.std.proofs.lemmas.Option.{slice_get_within, slice_get_past, slice_get-map, slice_get-get_or}
+use Rattle.std.proofs.lemmas.Option.{slice_get_within, slice_get-map, slice_get-get_or}
 use Rattle.std.specs.Option.{option_map}
 use Rattle.std.specs.declared.alloc.AllocError.{AllocError}
 use Rattle.odc_types.specs.declared.ty.Ty.{Ty}
@@ -13,13 +12,12 @@ use Rattle.odc_types.specs.Nodes.{Node, Name, node, nodes as nodes_of}
 use Rattle.odc_types.specs.Nodes as nodes
 use Rattle.odc_types.specs.declared.ty.Field.{Field}
 use Rattle.odc_types.specs.declared.ty.Param.{Param}
-use Rattle.odc_types.specs.Identity.{Root, named, Identity, Identities, tree, unknown, none, more, root_of, all_of, identity, identity_at, identity_of, identity_of_node, IsWhole, AreWhole, IsWholeTable, counted}
+use Rattle.odc_types.specs.Identity.{Root, named, Identity, Identities, tree, unknown, none, more, root_of, all_of, identity_at, identity_of, identity_of_node, IsWhole, IsWholeTable, counted}
 use Rattle.odc_types.specs.Parts.{HasPartsBelow, IsUndefined, IsSameName}
 use Rattle.odc_types.specs.Keys.{IsKeyOf, IsSameKey, kind_of, numbers_of}
 use Rattle.odc_types.specs.Interned.{HaveOneKey, IsFresh, IsAt, AreKeysOf, IsInterned}
-use Rattle.odc_types.proofs.KeyLemmas.{one_key, same_key, same_count, key_at, type_at_key, keys_added}
-use Rattle.odc_types.proofs.IdentityLaws.{identity_deeper, identity_added, whole_added, identity_defined, whole_defined, get_end}
-use Rattle.odc_types.proofs.LayoutLaws.{get_front, get_elsewhere}
+use Rattle.odc_types.proofs.KeyLemmas.{one_key, same_key, key_at, type_at_key, keys_added}
+use Rattle.odc_types.proofs.IdentityLaws.{identity_deeper, identity_added, whole_added, whole_defined, get_end}
 
 -- the identity of a type is that of its node over the identities of its parts
 pub unfolds : (types : List Node) → IsWholeTable types → (t : ℕ) (n : Node) → slice_get types t ≡ Some n → identity_of types t ≡ identity_of_node (identity_of types) n
@@ -142,7 +140,7 @@ below_more_types m n le nodes.rune h = h
 below_more_types m n le nodes.text h = h
 below_more_types m n le nodes.rawptr h = h
 
-get_last : {A : Type 0} (xs : List A) (x y : A) (i : ℕ) → slice_get (xs ++ (x ∷ [])) i ≡ Some y → (slice_get xs i ≡ Some y) ⊎ ((i ≡ length xs) × (x ≡ y))
+pub get_last : {A : Type 0} (xs : List A) (x y : A) (i : ℕ) → slice_get (xs ++ (x ∷ [])) i ≡ Some y → (slice_get xs i ≡ Some y) ⊎ ((i ≡ length xs) × (x ≡ y))
 get_last [] x y zero e = inr (refl, cc)
 get_last [] x y (suc i) e = cc
 get_last (z ∷ xs) x y zero e = inl e
@@ -211,7 +209,7 @@ defined_key keys types t (nodes.distinct a None) (nodes.distinct b None) hn hb u
 defined_key keys types t (nodes.distinct a None) (nodes.distinct b (Some c)) hn hb u = let k = names_key keys types t a b hn hb.0 u in record { root = k.0; parts = k.1 }
 defined_key keys types t n again hn hb u = absurd u
 
-get_set : {A : Type 0} (xs : List A) (i j : ℕ) (x y z : A) → slice_get xs i ≡ Some x → slice_get (slice_set xs i y) j ≡ Some z → ((i ≡ j) × (y ≡ z)) ⊎ (slice_get xs j ≡ Some z)
+pub get_set : {A : Type 0} (xs : List A) (i j : ℕ) (x y z : A) → slice_get xs i ≡ Some x → slice_get (slice_set xs i y) j ≡ Some z → ((i ≡ j) × (y ≡ z)) ⊎ (slice_get xs j ≡ Some z)
 get_set [] i j x y z e h = cc
 get_set (w ∷ xs) zero zero x y z e h = inl (refl, cc)
 get_set (w ∷ xs) zero (suc j) x y z e h = inr h

@@ -1,9 +1,7 @@
 -- The key of a type tells its root: whoever has the key has the root back.
-use Rattle.std.proofs.Common.{◌≡◌, ℕ, ℤ, pos, negsuc, Bool, nat_eq, if◌then◌else◌, List, [], ◌∷◌, ◌++◌, Option, Some, None, refl, sym, ◌∙◌, ap, length, slice_get, map, zero, suc, ◌<◌, ◌⊎◌, inl, inr}
+use Rattle.std.proofs.Common.{◌≡◌, ℕ, ℤ, pos, negsuc, nat_eq, if◌then◌else◌, List, [], ◌∷◌, ◌++◌, Some, refl, sym, ◌∙◌, ap, length, slice_get, zero, suc}
 use Rattle.odc_types.specs.declared.width.Width.{Width}
 use Rattle.odc_types.specs.declared.width.Width.TheVariants.{Int, Uint, I8, I16, I32, I64, U8, U16, U32, U64}
-use Rattle.odc_types.specs.declared.ty.TyId.{TyId}
-use Rattle.odc_types.specs.declared.ty.TypePlace.{TypePlace}
 use Rattle.odc_types.specs.declared.ty.Convention.TheVariants.{Odin, Contextless}
 use Rattle.odc_types.specs.declared.ty.SoaForm.TheVariants.{Fixed, Slice, Dyn}
 use Rattle.odc_types.specs.declared.key.Kind.{Kind}
@@ -12,7 +10,7 @@ use Rattle.odc_types.specs.declared.key.Key.{Key}
 use Rattle.odc_types.specs.Nodes.{Node}
 use Rattle.odc_types.specs.Identity.{Root, truth, integer, rune, text, rawptr, pointer, array, slice, dynamic, soa, named, procedure, root_of, counted}
 use Rattle.odc_types.specs.Interned.{AreKeysOf, HaveOneKey}
-use Rattle.odc_types.specs.Keys.{kind_of, numbers_of, width_number, kind_of_proc, IsKeyOf, IsSameKey}
+use Rattle.odc_types.specs.Keys.{kind_of, numbers_of, width_number, IsKeyOf, IsSameKey}
 
 -- a number that isn't negative
 abbrev size_of_int : ℤ → ℕ

@@ -12,7 +12,7 @@ use Rattle.odc_types.specs.Nodes as nodes
 use Rattle.odc_types.specs.Nodes.{Node, Name}
 use Rattle.odc_types.specs.Layout.{Layout, Layouts, more, array, struct, union, arrays, words, all_of, struct_fields, layout_of_node, layout, layout_of, HasSize, size, size_of}
 use Rattle.odc_types.specs.Parts.{IsUndefined}
-use Rattle.odc_types.specs.declared.measure.Extent.{Extent}
+use Rattle.odc_types.specs.declared.extent.Extent.{Extent}
 use Rattle.odc_types.specs.Clipped.{IsHeld, IsMeasured}
 
 -- what the first gives, the second gives too
@@ -59,7 +59,7 @@ fields_keep types types' g t fs e = fields_from (slice_get types t) (slice_get t
     fields_from None o' k fs e = cc
     fields_from (Some n) o' k fs e = fields_by n o' fs (k n refl) e
 
-node_keeps : (types types' : List Node) (f g : ℕ → Option Layout) → Grows types types' → Extends f g → (n : Node) (l : Layout) → layout_of_node types f n ≡ Some l → layout_of_node types' g n ≡ Some l
+pub node_keeps : (types types' : List Node) (f g : ℕ → Option Layout) → Grows types types' → Extends f g → (n : Node) (l : Layout) → layout_of_node types f n ≡ Some l → layout_of_node types' g n ≡ Some l
 node_keeps types types' f g grows k (nodes.array n of) l e = map_keeps (array n) (f of.index) (g of.index) (k.keeps of.index) l e
 node_keeps types types' f g grows k (nodes.soa (Fixed n) of) l e =
     then_keeps (λ fs. option_map (λ ls. struct (arrays n ls)) (all_of (map (λ x. f x.ty.index) fs))) (λ fs. option_map (λ ls. struct (arrays n ls)) (all_of (map (λ x. g x.ty.index) fs)))

@@ -5,3 +5,4 @@ pub mod IdentityLaws
 pub mod KeyLemmas
 pub mod KeyTests
 pub mod InternedLaws
+pub mod MeasuredLaws

@@ -8,9 +8,9 @@ use Rattle.std.specs.Option.{option_map, SomeIff}
 use Rattle.std.specs.Prelude.{◌≢◌, IsSome, unwrap_or}
 use Rattle.std.proofs.Math.Nat.{mod-eq_of_lt}
 use Rattle.std.proofs.Math.Seq.{drop-cons}
-use Rattle.odc_types.specs.declared.measure.Extent.{Extent}
+use Rattle.odc_types.specs.declared.extent.Extent.{Extent}
 use Rattle.odc_types.specs.Layout.{Layout, Layouts, none, more, scalar, words, array, struct, union, size, align, end_of, greatest, widest, arrays, all_of, round_up, begin_of, count_of, fields_in}
-use Rattle.odc_types.specs.Clipped.{IsHeld, IsMeasured}
+use Rattle.odc_types.specs.Clipped.{IsHeld, IsMeasured, kept_at, AreKept}
 
 -- what is missing to a multiple, where something is
 pub missing_part : (n a : ℕ) → 0 < a → 0 < n % a → (a - n % a) % a ≡ a - n % a
@@ -348,3 +348,7 @@ pub no_offset : (o : Option Layout) (i : ℕ) → IsSome o → unwrap_or (option
     ((l : Layout) → o ≡ Some l → i < count_of (fields_in l) → 2 ^ 64 ≤ begin_of 0 (fields_in l) i) → ⊥
 no_offset None i s below h far = absurd (omega arith)
 no_offset (Some l) i s below h far = let within = begin_within l i h in let away = far l refl h in omega arith
+
+-- what is kept of a part is that of its layout
+pub kept_part : (extents : List (Option Extent)) (part : ℕ → Option Layout) → AreKept extents part → (t : ℕ) (e : Option Extent) → e ≡ kept_at extents t → IsMeasured e (part t)
+kept_part extents part k t e h = subst (λ o. IsMeasured o (part t)) (sym h) (k.each t)

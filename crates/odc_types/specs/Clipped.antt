@@ -1,6 +1,6 @@
 -- How the code holds what it measures.
-use Rattle.std.specs.Prelude.{◌≡◌, ℕ, ◌^◌, ◌<◌, ◌≤◌, Option, Some, None}
-use Rattle.odc_types.specs.declared.measure.Extent.{Extent}
+use Rattle.std.specs.Prelude.{◌≡◌, ℕ, List, slice_get, unwrap_or, ◌^◌, ◌<◌, ◌≤◌, Option, Some, None}
+use Rattle.odc_types.specs.declared.extent.Extent.{Extent}
 use Rattle.odc_types.specs.Layout.{Layout, size, align}
 
 -- a size is held where it is below 2 to 64
@@ -20,3 +20,11 @@ IsMeasured None None = Unit {0}
 IsMeasured None (Some l) = ⊥
 IsMeasured (Some e) None = ⊥
 IsMeasured (Some e) (Some l) = IsExtent e l
+
+-- what is kept of a type
+abbrev pub kept_at : List (Option Extent) → ℕ → Option Extent
+kept_at extents t = unwrap_or (slice_get extents t) None
+
+-- the extents that are kept are those of these layouts
+pub record AreKept (extents : List (Option Extent)) (part : ℕ → Option Layout) : Type 0 where
+  pub each : (t : ℕ) → IsMeasured (kept_at extents t) (part t)

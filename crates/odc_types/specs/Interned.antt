@@ -1,10 +1,9 @@
 -- A table that has each type once.
-use Rattle.std.specs.Prelude.{◌≡◌, ℕ, ◌<◌, List, [], ◌∷◌, Option, Some, None, All, length, slice_get}
-use Rattle.odc_types.specs.declared.ty.TyId.{TyId}
+use Rattle.std.specs.Prelude.{◌≡◌, ℕ, List, [], ◌∷◌, Some, length, slice_get}
 use Rattle.odc_types.specs.declared.key.Key.{Key}
 use Rattle.odc_types.specs.Nodes.{Node}
 use Rattle.odc_types.specs.Parts.{HasPartsBelow}
-use Rattle.odc_types.specs.Identity.{Root, root_of, counted, IsWholeTable}
+use Rattle.odc_types.specs.Identity.{root_of, counted, IsWholeTable}
 use Rattle.odc_types.specs.Keys.{IsKeyOf}
 
 -- two types say the same and have the same parts, by their numbers

@@ -1,6 +1,6 @@
 -- The key of a type: its kind, the numbers that it says itself, and the parts that count. Two types have one key where their
 -- roots and their parts are the same.
-use Rattle.std.specs.Prelude.{◌≡◌, ℕ, ℤ, pos, List, [], ◌∷◌}
+use Rattle.std.specs.Prelude.{◌≡◌, ℤ, pos, List, [], ◌∷◌}
 use Rattle.odc_types.specs.declared.width.Width.{Width}
 use Rattle.odc_types.specs.declared.width.Width.TheVariants.{Int, Uint, I8, I16, I32, I64, U8, U16, U32, U64}
 use Rattle.odc_types.specs.declared.ty.Convention.{Convention}

@@ -91,6 +91,11 @@ abbrev pub integer_of : Option Width → Width
 integer_of None = width.Int
 integer_of (Some w) = w
 
+-- no distinct type that has its base
+abbrev pub IsPlain : Node → Type 0
+IsPlain (nodes.distinct name (Some b)) = ⊥
+IsPlain _ = Unit {0}
+
 -- the layout of a node over the layouts of its parts
 abbrev pub layout_of_node : List Node → (ℕ → Option Layout) → Node → Option Layout
 layout_of_node types part nodes.truth = Some (scalar 1)

@@ -6,3 +6,4 @@ pub mod Parts
 pub mod Layout
 pub mod Clipped
 pub mod Interned
+pub mod Measured

@@ -7,9 +7,11 @@
 // `align` and `offset` ask for that, and for a size below 2 to 64.
 #![tactic(auto)]
 
+mod extent;
 mod index;
 mod key;
 mod measure;
+mod spread;
 mod table;
 mod ty;
 mod width;

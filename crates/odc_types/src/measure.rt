@@ -1,19 +1,13 @@
-// The extents of types, measured along their parts by value.
-ghost use Rattle.std.specs.Prelude.{◌≡◌, ℕ, ◌+◌, ◌*◌, ◌<◌, max, Some, slice_get, map};
+// The extents of types, measured over the extents of their parts by value.
+ghost use Rattle.std.specs.Prelude.{◌≡◌, ℕ, ◌+◌, ◌*◌, ◌<◌, max, Option, Some, None, IfSome, IfNone, List, slice_get, map, ◌≤◌, ◌-◌};
 ghost use Rattle.std.specs.Option.{option_copied, option_map};
-ghost use Rattle.odc_types.specs.Nodes.{node, nodes, soa};
-ghost use Rattle.odc_types.specs.Layout.{layout, layout_of_node, struct_fields, all_of, arrays, begin_of, count_of, fields_in, round_up, scalar, words, array, struct, union};
-ghost use Rattle.odc_types.specs.Clipped.{IsHeld, IsMeasured};
+ghost use Rattle.odc_types.specs.Nodes.{Node, node, nodes, soa};
+ghost use Rattle.odc_types.specs.Layout.{Layout, layout_of_node, struct_fields, all_of, arrays, begin_of, count_of, fields_in, layout_of, IsPlain, round_up, scalar, words, array, struct, union};
+ghost use Rattle.odc_types.specs.Clipped.{IsHeld, IsMeasured, kept_at, AreKept};
 
+use crate::extent::Extent;
 use crate::ty::{Field, SoaForm, Ty, TyId};
 use crate::width::{Width, bytes};
-
-/// The size of a type, where it is below 2 to 64, and its alignment.
-#[derive(Clone, Copy)]
-pub(crate) struct Extent {
-    pub(crate) size: Option<u64>,
-    pub(crate) align: u64,
-}
 
 /// The next multiple of an alignment.
 fn rounded(size: Option<u64>, align: u64) -> Option<u64>
@@ -107,6 +101,16 @@ pub(crate) fn type_at(types: &[Ty], t: TyId) -> Option<&Ty>
     types.get(t.index as usize)
 }
 
+/// What is kept of a type.
+pub(crate) fn kept(extents: &[Option<Extent>], t: TyId) -> Option<Extent>
+    ensures { result ≡ kept_at extents.now t.index }
+{
+    match extents.get(t.index as usize) {
+        Some(extent) => *extent,
+        None => None,
+    }
+}
+
 /// The fields of a struct type.
 pub(crate) fn fields_of(types: &[Ty], t: TyId) -> Option<&[Field]>
     ensures { option_copied result ≡ struct_fields (slice_get (nodes types.now) t.index) }
@@ -122,23 +126,9 @@ pub(crate) fn fields_of(types: &[Ty], t: TyId) -> Option<&[Field]>
     }
 }
 
-/// The extent of a type that is unfolded so many levels deep.
-#[cycle(measures)]
-pub(crate) fn measured(types: &[Ty], depth: usize, t: TyId) -> Option<Extent>
-    ensures { IsMeasured result (layout (nodes types.now) depth t.index) }
-{
-    if depth == 0 {
-        return None;
-    }
-    match type_at(types, t) {
-        Some(ty) => node_extent(types, depth - 1, ty),
-        None => None,
-    }
-}
-
-#[cycle(measures)]
-fn node_extent(types: &[Ty], depth: usize, ty: &Ty) -> Option<Extent>
-    ensures { IsMeasured result (layout_of_node (nodes types.now) (layout (nodes types.now) depth) (node ty.now)) }
+/// The extent of a type over the extents of its parts.
+pub(crate) fn measured(types: &[Ty], extents: &[Option<Extent>], ty: &Ty) -> Option<Extent>
+    ensures { (part : ℕ → Option Layout) → AreKept extents.now part → IsMeasured result (layout_of_node (nodes types.now) part (node ty.now)) }
 {
     match ty {
         Ty::Bool => one(1),
@@ -147,14 +137,14 @@ fn node_extent(types: &[Ty], depth: usize, ty: &Ty) -> Option<Extent>
         Ty::RawPtr | Ty::Ptr { .. } | Ty::Proc { .. } => one(8),
         Ty::Text | Ty::Slice { .. } => some_words(2),
         Ty::Dyn { .. } => some_words(5),
-        Ty::Array { count, of } => repeated(*count, measured(types, depth, *of)),
-        Ty::Soa { form, of } => soa_extent(types, depth, *form, *of),
-        Ty::Struct {
-            fields: Some(fields),
-            ..
-        } => record_extent(types, depth, fields.as_slice()),
+        Ty::Array { count, of } => repeated(*count, kept(extents, *of)),
+        Ty::Soa { form, of } => container_extent(types, extents, *form, *of),
+        Ty::Struct { fields, .. } => match fields {
+            Some(fields) => record_extent(extents, fields.as_slice()),
+            None => None,
+        },
         Ty::Union { variants, .. } => match variants {
-            Some(variants) => union_extent(types, depth, variants.as_slice()),
+            Some(variants) => union_extent(extents, variants.as_slice()),
             None => None,
         },
         Ty::Enum {
@@ -165,27 +155,30 @@ fn node_extent(types: &[Ty], depth: usize, ty: &Ty) -> Option<Extent>
         Ty::Distinct {
             base: Some(base),
             ..
-        } => measured(types, depth, *base),
+        } => kept(extents, *base),
         _ => None,
     }
 }
 
 /// A struct of these fields.
-#[cycle(measures)]
-fn record_extent(types: &[Ty], depth: usize, fields: &[Field]) -> Option<Extent>
-    ensures { IsMeasured result (option_map struct (all_of (map (λ f. layout (nodes types.now) depth f.ty.index) fields.now))) }
+fn record_extent(extents: &[Option<Extent>], fields: &[Field]) -> Option<Extent>
+    ensures { (part : ℕ → Option Layout) → AreKept extents.now part → IsMeasured result (option_map struct (all_of (map (λ f. part f.ty.index) fields.now))) }
 {
-    columns(types, depth, 1, fields)
+    columns(extents, 1, fields)
 }
 
 /// A `#soa` container over a struct.
-#[cycle(measures)]
-fn soa_extent(types: &[Ty], depth: usize, form: SoaForm, of: TyId) -> Option<Extent>
-    ensures { IsMeasured result (layout_of_node (nodes types.now) (layout (nodes types.now) depth) (soa form of)) }
+fn container_extent(
+    types: &[Ty],
+    extents: &[Option<Extent>],
+    form: SoaForm,
+    of: TyId,
+) -> Option<Extent>
+    ensures { (part : ℕ → Option Layout) → AreKept extents.now part → IsMeasured result (layout_of_node (nodes types.now) part (soa form of)) }
 {
     match fields_of(types, of) {
         Some(fields) => match form {
-            SoaForm::Fixed { count } => columns(types, depth, count, fields),
+            SoaForm::Fixed { count } => columns(extents, count, fields),
             SoaForm::Slice => some_words(fields.len() + 1),
             SoaForm::Dyn => some_words(fields.len() + 4),
         },
@@ -194,14 +187,13 @@ fn soa_extent(types: &[Ty], depth: usize, form: SoaForm, of: TyId) -> Option<Ext
 }
 
 /// A struct of arrays, each over one of the fields.
-#[cycle(measures)]
-fn columns(types: &[Ty], depth: usize, count: u64, fields: &[Field]) -> Option<Extent>
-    ensures { IsMeasured result (option_map (λ ls. struct (arrays count ls)) (all_of (map (λ f. layout (nodes types.now) depth f.ty.index) fields.now))) }
+fn columns(extents: &[Option<Extent>], count: u64, fields: &[Field]) -> Option<Extent>
+    ensures { (part : ℕ → Option Layout) → AreKept extents.now part → IsMeasured result (option_map (λ ls. struct (arrays count ls)) (all_of (map (λ f. part f.ty.index) fields.now))) }
 {
     let mut end = Some(0);
     let mut align = 1;
     for field in fields {
-        match measured(types, depth, field.ty) {
+        match kept(extents, field.ty) {
             Some(part) => {
                 end = sum(rounded(end, part.align), product(count, part.size));
                 align = align.max(part.align);
@@ -216,13 +208,12 @@ fn columns(types: &[Ty], depth: usize, count: u64, fields: &[Field]) -> Option<E
 }
 
 /// A union of these variants: the widest, and behind it a tag of 8 bytes.
-#[cycle(measures)]
-fn union_extent(types: &[Ty], depth: usize, variants: &[TyId]) -> Option<Extent>
-    ensures { IsMeasured result (option_map union (all_of (map (λ v. layout (nodes types.now) depth v.index) variants.now))) }
+fn union_extent(extents: &[Option<Extent>], variants: &[TyId]) -> Option<Extent>
+    ensures { (part : ℕ → Option Layout) → AreKept extents.now part → IsMeasured result (option_map union (all_of (map (λ v. part v.index) variants.now))) }
 {
     let mut widest = Some(0);
     for variant in variants {
-        match measured(types, depth, *variant) {
+        match kept(extents, *variant) {
             Some(part) => widest = greater(widest, part.size),
             None => return None,
         }
@@ -233,58 +224,18 @@ fn union_extent(types: &[Ty], depth: usize, variants: &[TyId]) -> Option<Extent>
     })
 }
 
-/// Where a field of a type begins, whose parts are unfolded so many levels deep.
-#[cycle(offsets)]
-fn offset_in(types: &[Ty], depth: usize, ty: &Ty, field: usize) -> Option<u64>
-    ensures { (l : _) → layout_of_node (nodes types.now) (layout (nodes types.now) depth) (node ty.now) ≡ Some l → field < count_of (fields_in l) → IsHeld result (begin_of 0 (fields_in l) field) }
-{
-    match ty {
-        Ty::Struct { fields, .. } => match fields {
-            Some(fields) => column_offset(types, depth, 1, fields.as_slice(), field),
-            None => None,
-        },
-        Ty::Soa {
-            form: SoaForm::Fixed { count },
-            of,
-        } => match fields_of(types, *of) {
-            Some(fields) => column_offset(types, depth, *count, fields, field),
-            None => None,
-        },
-        Ty::Distinct { base, .. } => match base {
-            Some(base) => offset_within(types, depth, *base, field),
-            None => None,
-        },
-        _ => None,
-    }
-}
-
-/// Where a field of a type begins that is unfolded so many levels deep.
-#[cycle(offsets)]
-pub(crate) fn offset_within(types: &[Ty], depth: usize, t: TyId, field: usize) -> Option<u64>
-    ensures { (l : _) → layout (nodes types.now) depth t.index ≡ Some l → field < count_of (fields_in l) → IsHeld result (begin_of 0 (fields_in l) field) }
-{
-    if depth == 0 {
-        return None;
-    }
-    match type_at(types, t) {
-        Some(ty) => offset_in(types, depth - 1, ty, field),
-        None => None,
-    }
-}
-
 /// Where a column begins in a struct of arrays, each over one of the fields.
 fn column_offset(
-    types: &[Ty],
-    depth: usize,
+    extents: &[Option<Extent>],
     count: u64,
     fields: &[Field],
     column: usize,
 ) -> Option<u64>
-    ensures { (ls : _) → all_of (map (λ f. layout (nodes types.now) depth f.ty.index) fields.now) ≡ Some ls → column < count_of (arrays count ls) → IsHeld result (begin_of 0 (arrays count ls) column) }
+    ensures { (part : ℕ → Option Layout) (ls : _) → AreKept extents.now part → all_of (map (λ f. part f.ty.index) fields.now) ≡ Some ls → column < count_of (arrays count ls) → IsHeld result (begin_of 0 (arrays count ls) column) }
 {
     let mut end = Some(0);
     for (at, field) in fields.iter().enumerate() {
-        let Some(part) = measured(types, depth, field.ty) else {
+        let Some(part) = kept(extents, field.ty) else {
             return None;
         };
         let begin = rounded(end, part.align);
@@ -294,4 +245,71 @@ fn column_offset(
         end = sum(begin, product(count, part.size));
     }
     None
+}
+
+/// Where a field of a type begins that isn't distinct.
+fn offset_in(types: &[Ty], extents: &[Option<Extent>], ty: &Ty, field: usize) -> Option<u64>
+    requires { IsPlain (node ty.now) }
+    ensures { (part : ℕ → Option Layout) (l : _) → AreKept extents.now part → layout_of_node (nodes types.now) part (node ty.now) ≡ Some l → field < count_of (fields_in l) → IsHeld result (begin_of 0 (fields_in l) field) }
+{
+    match ty {
+        Ty::Struct { fields, .. } => match fields {
+            Some(fields) => column_offset(extents, 1, fields.as_slice(), field),
+            None => None,
+        },
+        Ty::Soa {
+            form: SoaForm::Fixed { count },
+            of,
+        } => match fields_of(types, *of) {
+            Some(fields) => column_offset(extents, *count, fields, field),
+            None => None,
+        },
+        _ => None,
+    }
+}
+
+/// The base of a distinct type.
+fn base_of(ty: &Ty) -> Option<TyId>
+    ensures some { IfSome result (λ b. (types : List Node) (part : ℕ → Option Layout) → layout_of_node types part (node ty.now) ≡ part b.index) }
+    ensures none { IfNone result (IsPlain (node ty.now)) }
+{
+    match ty {
+        Ty::Distinct { base, .. } => *base,
+        _ => None,
+    }
+}
+
+/// The type under distinct types.
+fn under(types: &[Ty], t: TyId) -> Option<&Ty>
+    ensures plain { IfSome result (λ ty. IsPlain (node ty.now)) }
+    ensures same { IfSome result (λ ty. (l : _) → layout_of (nodes types.now) t.index ≡ Some l → layout_of_node (nodes types.now) (layout_of (nodes types.now)) (node ty.now) ≡ Some l) }
+    ensures none { IfNone result (layout_of (nodes types.now) t.index ≡ None) }
+{
+    let mut t = t;
+    for _ in 0..types.len() {
+        let Some(ty) = type_at(types, t) else {
+            return None;
+        };
+        match base_of(ty) {
+            Some(base) => t = base,
+            None => return Some(ty),
+        }
+    }
+    None
+}
+
+/// Where a field of a type begins.
+pub(crate) fn field_offset(
+    types: &[Ty],
+    extents: &[Option<Extent>],
+    t: TyId,
+    field: usize,
+) -> Option<u64>
+    requires { AreKept extents.now (layout_of (nodes types.now)) }
+    ensures { (l : _) → layout_of (nodes types.now) t.index ≡ Some l → field < count_of (fields_in l) → IsHeld result (begin_of 0 (fields_in l) field) }
+{
+    match under(types, t) {
+        Some(ty) => offset_in(types, extents, ty, field),
+        None => None,
+    }
 }

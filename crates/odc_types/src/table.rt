@@ -7,9 +7,11 @@ ghost use Rattle.odc_types.specs.Interned.{IsFresh, IsAt};
 ghost use Rattle.odc_types.specs.Layout.{layout, size as bytes_of, HasSize, size_of, align_of, field_count, offset_of, layout_of, layout_of_node};
 ghost use Rattle.odc_types.specs.Clipped.{IsMeasured};
 
+use crate::extent::Extent;
 use crate::index::{found, put};
 use crate::key::{Key, key_of};
-use crate::measure::{Extent, measured, offset_within};
+use crate::measure::{field_offset, kept, measured};
+use crate::spread::{settle, trim, wait_if_unknown};
 use crate::ty::{Ty, TyId};
 use indexmap::IndexSet;
 use std::alloc::{AllocError, Global};
@@ -30,18 +32,21 @@ fn numbered(index: usize) -> Result<TyId, AllocError>
 pub struct TypeTable {
     types: Vec<Ty>,
     keys: IndexSet<Key>,
+    extents: Vec<Option<Extent>>,
+    waiting: Vec<TyId>,
 }
 
 impl Model for TypeTable {
     ghost use Rattle.std.specs.Prelude.{List};
     ghost use Rattle.odc_types.specs.Nodes.{Node, nodes};
     ghost use Rattle.odc_types.specs.Interned.{IsInterned};
+    ghost use Rattle.odc_types.specs.Measured.{IsMeasuredTable};
 
     ghost Value = { List Node };
 
     ghost view = { λ t. nodes t.types.items };
 
-    ghost invariant = { λ t. IsInterned t.keys.keys (nodes t.types.items) };
+    ghost invariant = { λ t. IsInterned t.keys.keys (nodes t.types.items) × IsMeasuredTable (nodes t.types.items) t.extents.items t.waiting.items };
 }
 
 impl TypeTable {
@@ -52,6 +57,8 @@ impl TypeTable {
         Ok(TypeTable {
             types: Vec::new(alloc),
             keys: IndexSet::new(alloc),
+            extents: Vec::new(alloc),
+            waiting: Vec::new(alloc),
         })
     }
 
@@ -91,9 +98,16 @@ impl TypeTable {
         ensures err { OnErr result (self.new ≡ self.old) }
     {
         let id = numbered(self.types.len())?;
-        self.types.push(t)?;
+        let extent = measured(self.types.as_slice(), self.extents.as_slice(), &t);
+        wait_if_unknown(&mut self.waiting, id, extent, &t)?;
+        self.extents.push(extent)?;
+        if let Err(refused) = self.types.push(t) {
+            self.extents.pop();
+            return Err(AllocError::from(refused));
+        }
         if let Err(refused) = put(&mut self.keys, key) {
             self.types.pop();
+            self.extents.pop();
             return Err(refused);
         }
         Ok(id)
@@ -110,7 +124,14 @@ impl TypeTable {
         ensures layouts { (u : ℕ) → HasSize self.old u → layout_of self.new u ≡ layout_of self.old u }
         ensures err { OnErr result (self.new ≡ self.old) }
     {
+        self.waiting.push(t)?;
         self.types[t.index as usize] = parts;
+        settle(
+            self.types.as_slice(),
+            self.extents.as_mut_slice(),
+            self.waiting.as_slice(),
+        );
+        trim(&mut self.waiting, self.extents.as_slice());
         Ok(())
     }
 
@@ -147,7 +168,7 @@ impl TypeTable {
         // However deep the type is unfolded.
         ensures none_deeper { IfNone result ((k : ℕ) (l : _) → layout self.now k t.index ≡ Some l → 2 ^ 64 ≤ bytes_of l) }
     {
-        match measured(self.types.as_slice(), self.types.len(), t) {
+        match kept(self.extents.as_slice(), t) {
             Some(extent) => extent.size,
             None => None,
         }
@@ -181,7 +202,12 @@ impl TypeTable {
         requires within { field < field_count self.now t.index }
         ensures { result ≡ offset_of self.now t.index field }
     {
-        match offset_within(self.types.as_slice(), self.types.len(), t, field as usize) {
+        match field_offset(
+            self.types.as_slice(),
+            self.extents.as_slice(),
+            t,
+            field as usize,
+        ) {
             Some(offset) => offset,
             None => unreachable!(),
         }
@@ -203,7 +229,7 @@ impl TypeTable {
         requires { HasSize self.now t.index }
         ensures { IsMeasured (Some result) (layout_of self.now t.index) }
     {
-        match measured(self.types.as_slice(), self.types.len(), t) {
+        match kept(self.extents.as_slice(), t) {
             Some(extent) => extent,
             None => unreachable!(),
         }

@@ -1,4 +1,7 @@
-ghost use Rattle.std.specs.Prelude.{◌≡◌, ◌<◌, [], ◌∷◌, ◌++◌, length, IfOk, OnOk};
+ghost use Rattle.std.specs.Prelude.{◌≡◌, ◌<◌, ◌≤◌, [], ◌∷◌, ◌++◌, length, slice_get, Some, None, IfOk, OnOk};
+ghost use Rattle.odc_types.specs.Nodes.{Node, node, integer, pointer, struct};
+ghost use Rattle.odc_types.specs.declared.width.Width.TheVariants as width;
+ghost use Rattle.odc_types.specs.Parts.{HasPartsBelow};
 
 use crate::{Field, SoaForm, Ty, TyId, TypeName, TypePlace, TypeTable, Width, divide, wrap};
 use std::alloc::{AllocError, Global};
@@ -204,17 +207,29 @@ fn records_lie_in_columns(rt: HostRuntime) -> Result<(), AllocError> {
     Ok(())
 }
 
-#[test]
-fn a_node_names_itself(rt: HostRuntime) -> Result<(), AllocError> {
-    let alloc = rt.alloc();
-    let mut table = TypeTable::new(alloc)?;
-    let byte = table.add(Ty::Int { width: Width::U8 })?;
+/// Fills a table: `u8`, `Node :: struct` without its fields, and `^Node`.
+fn linked(table: &mut TypeTable, alloc: Global) -> Result<(), AllocError>
+    requires empty { table.old ≡ [] }
+    ensures { OnOk result (table.new ≡ integer width.U8 ∷ (struct (record { at = record { file = 0; line = 1; column = 1 }; types = []; numbers = [] }) None ∷ (pointer (record { index = 1 }) ∷ []))) }
+{
+    table.add(Ty::Int { width: Width::U8 })?;
     let node = table.add(Ty::Struct {
         name: named(alloc, 1),
         fields: None,
     })?;
+    table.add(Ty::Ptr { to: node })?;
+    Ok(())
+}
+
+#[test]
+fn a_node_names_itself(rt: HostRuntime) -> Result<(), AllocError> {
+    let alloc = rt.alloc();
+    let mut table = TypeTable::new(alloc)?;
+    linked(&mut table, alloc)?;
+    let byte = TyId { index: 0 };
+    let node = TyId { index: 1 };
+    let next = TyId { index: 2 };
     assert!(rt; extent(&table, node) == None);
-    let next = table.add(Ty::Ptr { to: node })?;
     // Node :: struct {next: ^Node, v: u8}
     let fields = vec![in alloc; Field { name: 1, ty: next }, Field { name: 2, ty: byte }]?;
     table.define(
@@ -227,5 +242,156 @@ fn a_node_names_itself(rt: HostRuntime) -> Result<(), AllocError> {
     assert!(rt; extent(&table, node) == Some((16, 8)));
     assert_eq!(rt; table.offset(node, 0), 0);
     assert_eq!(rt; table.offset(node, 1), 8);
+    Ok(())
+}
+
+/// The type at a level of `E0 :: u8` and `Ek+1 :: struct {a, b: Ek}`.
+fn doubled(table: &mut TypeTable, alloc: Global, levels: u32) -> Result<TyId, AllocError> {
+    let mut ty = table.add(Ty::Int { width: Width::U8 })?;
+    for level in 0..levels {
+        let fields = vec![in alloc; Field { name: 1, ty }, Field { name: 2, ty }]?;
+        ty = table.add(Ty::Struct {
+            name: named(alloc, level),
+            fields: Some(fields),
+        })?;
+    }
+    Ok(ty)
+}
+
+#[test]
+fn shared_parts_are_measured_once(rt: HostRuntime) -> Result<(), AllocError> {
+    let alloc = rt.alloc();
+    let mut table = TypeTable::new(alloc)?;
+    for (levels, size) in [
+        (0, Some(1)),
+        (1, Some(2)),
+        (10, Some(0x400)),
+        (40, Some(0x100_0000_0000)),
+        (62, Some(0x4000_0000_0000_0000)),
+        (63, Some(0x8000_0000_0000_0000)),
+        (64, None),
+        (65, None),
+        (200, None),
+    ] {
+        let ty = doubled(&mut table, alloc, levels)?;
+        assert_eq!(rt; table.checked_size(ty), size);
+    }
+    assert_eq!(rt; table.len(), 201);
+    Ok(())
+}
+
+/// `u8` in so many arrays of one element, and under as many distinct types.
+fn wrapped(table: &mut TypeTable, alloc: Global, levels: u32) -> Result<TyId, AllocError> {
+    let mut ty = table.add(Ty::Int { width: Width::U8 })?;
+    for level in 0..levels {
+        let of = table.add(Ty::Array { count: 1, of: ty })?;
+        ty = table.add(Ty::Distinct {
+            name: named(alloc, level),
+            base: Some(of),
+        })?;
+    }
+    Ok(ty)
+}
+
+#[test]
+fn deep_types_take_no_stack(rt: HostRuntime) -> Result<(), AllocError> {
+    let alloc = rt.alloc();
+    let mut table = TypeTable::new(alloc)?;
+    let ty = wrapped(&mut table, alloc, 50_000)?;
+    assert!(rt; extent(&table, ty) == Some((1, 1)));
+    assert_eq!(rt; table.len(), 100_001);
+    Ok(())
+}
+
+/// Adds a type to a table that has one.
+fn add_on(table: &mut TypeTable, t: Ty) -> Result<TyId, AllocError>
+    requires { HasPartsBelow (length table.old) (node t) }
+    ensures within { IfOk result (λ id. id.index < length table.new) }
+    ensures longer { length table.old ≤ length table.new }
+    ensures first { (n : Node) → slice_get table.old 0 ≡ Some n → slice_get table.new 0 ≡ Some n }
+{
+    table.add(t)
+}
+
+/// Types of a table whose first one lacks its parts.
+struct Waiting {
+    byte: TyId,
+    row: TyId,
+    outer: TyId,
+}
+
+/// Fills a table: `Inner :: struct` without its fields, `u8`, `[3]Inner` and `Outer :: struct {flag: u8, row: [3]Inner}`.
+fn declared(table: &mut TypeTable, alloc: Global) -> Result<Waiting, AllocError>
+    requires empty { table.old ≡ [] }
+    ensures first { OnOk result (slice_get table.new 0 ≡ Some (struct (record { at = record { file = 0; line = 1; column = 1 }; types = []; numbers = [] }) None)) }
+    ensures byte { IfOk result (λ w. w.byte.index < length table.new) }
+{
+    let inner = table.add(Ty::Struct {
+        name: named(alloc, 1),
+        fields: None,
+    })?;
+    let byte = add_on(table, Ty::Int { width: Width::U8 })?;
+    let row = add_on(
+        table,
+        Ty::Array {
+            count: 3,
+            of: inner,
+        },
+    )?;
+    let fields = vec![in alloc; Field { name: 1, ty: byte }, Field { name: 2, ty: row }]?;
+    let outer = add_on(
+        table,
+        Ty::Struct {
+            name: named(alloc, 2),
+            fields: Some(fields),
+        },
+    )?;
+    Ok(Waiting { byte, row, outer })
+}
+
+#[test]
+fn a_type_waits_for_its_parts(rt: HostRuntime) -> Result<(), AllocError> {
+    let alloc = rt.alloc();
+    let mut table = TypeTable::new(alloc)?;
+    let Waiting { byte, row, outer } = declared(&mut table, alloc)?;
+    let inner = TyId { index: 0 };
+    assert!(rt; extent(&table, inner) == None);
+    assert!(rt; extent(&table, row) == None);
+    assert!(rt; extent(&table, outer) == None);
+    // Inner :: struct {a: u8}
+    let fields = vec![in alloc; Field { name: 3, ty: byte }]?;
+    table.define(
+        inner,
+        Ty::Struct {
+            name: named(alloc, 1),
+            fields: Some(fields),
+        },
+    )?;
+    assert!(rt; extent(&table, inner) == Some((1, 1)));
+    assert!(rt; extent(&table, row) == Some((3, 1)));
+    assert!(rt; extent(&table, outer) == Some((4, 1)));
+    Ok(())
+}
+
+#[test]
+fn a_type_in_itself_has_no_size(rt: HostRuntime) -> Result<(), AllocError> {
+    let alloc = rt.alloc();
+    let mut table = TypeTable::new(alloc)?;
+    let node = table.add(Ty::Struct {
+        name: named(alloc, 1),
+        fields: None,
+    })?;
+    let pair = add_on(&mut table, Ty::Array { count: 2, of: node })?;
+    // Node :: struct {pair: [2]Node}
+    let fields = vec![in alloc; Field { name: 1, ty: pair }]?;
+    table.define(
+        node,
+        Ty::Struct {
+            name: named(alloc, 1),
+            fields: Some(fields),
+        },
+    )?;
+    assert!(rt; extent(&table, node) == None);
+    assert!(rt; extent(&table, pair) == None);
     Ok(())
 }

@@ -1,5 +1,5 @@
 use Rattle.std.proofs.Common.{◌∙◌, sym, ap, subst, length, ◌≡◌, ◌<◌, Some, slice_get}
-use Rattle.odc_types.specs.Nodes.{node, nodes}
+use Rattle.odc_types.specs.Nodes.{node}
 use Rattle.odc_types.specs.Interned.{IsInterned}
 use Rattle.odc_types.proofs.InternedLaws.{unfolds, node_at}
 use Rattle.odc_types.proofs.LayoutLaws.{layout_unfolds}
@@ -12,12 +12,12 @@ at c =
 
 pub returns-clause-parts : goal.returns-clause-parts
 returns-clause-parts c =
-    let table : IsInterned c.self.inside.keys.keys c.args.self.now = subst (IsInterned c.self.inside.keys.keys) c.self.view_is c.self.invariant in
+    let table : IsInterned c.self.inside.keys.keys c.args.self.now = subst (IsInterned c.self.inside.keys.keys) c.self.view_is c.self.invariant.0 in
     table.parts c.args.t.index (node c.index.result.now) (at c)
 
 pub returns-clause-identity : goal.returns-clause-identity
 returns-clause-identity c =
-    let table : IsInterned c.self.inside.keys.keys c.args.self.now = subst (IsInterned c.self.inside.keys.keys) c.self.view_is c.self.invariant in
+    let table : IsInterned c.self.inside.keys.keys c.args.self.now = subst (IsInterned c.self.inside.keys.keys) c.self.view_is c.self.invariant.0 in
     unfolds c.args.self.now table.whole c.args.t.index (node c.index.result.now) (at c)
 
 pub returns-clause-layout : goal.returns-clause-layout

@@ -1,0 +1,9 @@
+ghost use Rattle.std.specs.Prelude.{◌<◌};
+
+/// The size of a type, where it is below 2 to 64, and its alignment.
+#[derive(Clone, Copy)]
+pub(crate) struct Extent {
+    pub(crate) size: Option<u64>,
+    pub(crate) align: u64,
+    ghost positive: { 0 < align },
+}
