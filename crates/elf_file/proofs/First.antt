@@ -1,5 +1,5 @@
 -- The first answer among those for the numbers below a bound.
-use Rattle.std.proofs.Common.{◌≡◌, ℕ, zero, suc, ◌+◌, ◌-◌, ◌<◌, ◌≤◌, Option, Some, None, arith, refl, ap, ◌∙◌, sym, add-one}
+use Rattle.std.proofs.Common.{◌≡◌, ℕ, zero, suc, ◌+◌, ◌-◌, ◌<◌, Option, Some, None, arith, refl, ap, ◌∙◌, add-one}
 use Rattle.elf_file.specs.Rules.{or_else, first_below}
 
 pub first_more : {A : Type 0} (f : ℕ → Option A) (k : ℕ) → first_below f k ≡ None → f k ≡ None → first_below f (k + 1) ≡ None

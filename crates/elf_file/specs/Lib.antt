@@ -6,3 +6,5 @@ pub mod Rules
 pub mod Seen
 -- 4 where headers stand
 pub mod Stands
+-- 5 the file of an image
+pub mod Written

@@ -6,3 +6,5 @@ pub mod Sections
 pub mod Listed
 -- 4 the line of an allocator call
 pub mod Trace
+-- 5 the memory map of an executable
+pub mod Layout

@@ -1,8 +1,7 @@
-use Rattle.std.proofs.Common.{◌≡◌, ◌<◌, Bool, Option, Some, true, false, ℕ, arith, ap, ◌∙◌, sym}
+use Rattle.std.proofs.Common.{◌≡◌, ◌<◌, Bool, true, false, ℕ, arith, ap, ◌∙◌, sym}
 use Rattle.std.specs.Prelude.{not, ◌||◌}
 use Rattle.elf_file.specs.Fields as field
 use Rattle.elf_file.specs.Rules.{unless, is_load, fits, broken_range}
-use Rattle.elf_file.specs.declared.read.BadImage.{BadImage}
 use Rattle.elf_file.proofs.First.{first_is}
 use Rattle.elf_file.proofs.program.read_ranges.Goals as goal
 

@@ -3,7 +3,6 @@ use Rattle.std.specs.Prelude.{nat_eq}
 use Rattle.std.specs.List.{starts_with}
 use Rattle.std.proofs.Math.ListN.{drop_of_length-le}
 use Rattle.elf_file.specs.Fields as field
-use Rattle.elf_file.specs.Rules.{section_bytes}
 use Rattle.elf_file.proofs.section.has_name.Goals as goal
 
 none_starts : (name : List ℕ) → 0 < length name → starts_with nat_eq [] name ≡ false
