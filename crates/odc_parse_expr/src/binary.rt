@@ -20,6 +20,7 @@ use odc_tree::discard::discard_expr;
 use std::alloc::Global;
 
 /// An expression of a level: any expression at the loosest.
+#[inline(always)]
 #[cycle(parser)]
 pub fn level<'a>(
     alloc: Global,
@@ -42,6 +43,7 @@ pub fn level<'a>(
 }
 
 /// What the operators of a level stand between.
+#[inline(always)]
 #[cycle(parser)]
 fn item<'a>(
     alloc: Global,

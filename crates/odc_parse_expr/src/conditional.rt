@@ -307,6 +307,7 @@ fn bare(e: Expr) -> Head
 }
 
 /// `if`, with its `else` or without.
+#[inline(never)]
 fn conditional(
     alloc: Global,
     at: Place,

@@ -774,6 +774,7 @@ fn behind_step<'a>(
 }
 
 /// The statement that was read.
+#[inline(never)]
 fn built(alloc: Global, label: Option<Token>, at: Place, read: Loop) -> Result<Stmt, AllocError>
     ensures { IfOk result (λ s. stmt s ≡ labelled_node label (loop_of at read)) }
 {

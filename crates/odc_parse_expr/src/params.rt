@@ -62,6 +62,7 @@ pub fn params<'a>(
 
 /// Names in front where no type may stand any more: they may be names of parameters, and as types they are
 /// too deep. Where a type may stand tells which it is.
+#[inline(never)]
 #[cycle(parser)]
 fn crossed<'a>(
     alloc: Global,
@@ -317,6 +318,7 @@ pub struct TypeAndDefault {
 }
 
 /// The type of names, and what they are given by default.
+#[inline(never)]
 #[cycle(parser)]
 fn typed<'a>(
     alloc: Global,

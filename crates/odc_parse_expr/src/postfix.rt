@@ -96,6 +96,7 @@ pub fn postfix<'a>(
 }
 
 /// What stands behind an operand, from its first token on.
+#[inline(never)]
 #[cycle(parser)]
 fn read_suffix<'a>(
     alloc: Global,
@@ -327,6 +328,7 @@ fn high<'a>(
 }
 
 /// An expression with what stands behind it.
+#[inline(never)]
 fn applied(alloc: Global, e: Expr, s: Suffix) -> Result<Expr, AllocError>
     ensures { IfOk result (λ u. expr u ≡ suffixed (expr e) (suffix s)) }
 {

@@ -84,6 +84,7 @@ fn lambda<'a>(
 }
 
 /// A signature that was read, and the body behind it.
+#[inline(never)]
 #[cycle(parser)]
 fn with_body<'a>(
     alloc: Global,

@@ -81,6 +81,7 @@ fn convention(tokens: &[Token]) -> (Option<Token>, &[Token])
 }
 
 /// What a procedure gives, if it gives something.
+#[inline(never)]
 #[cycle(parser)]
 fn results<'a>(
     alloc: Global,

@@ -21,7 +21,7 @@ use odc_nodes::stmt_nodes;
 use odc_syntax::grammar::{Level, Mode};
 use odc_syntax::token::{Token, TokenKind};
 use odc_syntax::tree::{AssignOp, BinaryOp, Expr, Stmt};
-use odc_tree::discard::{discard_expr, discard_exprs};
+use odc_tree::discard::discard_exprs;
 use std::alloc::Global;
 
 /// An assignment, or expressions alone.

@@ -31,7 +31,6 @@ use odc_nodes::{nodes, stmt_nodes};
 use odc_syntax::grammar::{Mode, Use};
 use odc_syntax::token::{Token, TokenKind};
 use odc_syntax::tree::{ExprKind, Stmt, StmtKind};
-use odc_tree::discard::discard_type;
 use std::alloc::Global;
 
 /// A statement.

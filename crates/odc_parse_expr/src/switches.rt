@@ -148,6 +148,7 @@ fn name_in(tokens: &[Token]) -> Option<(Token, Token, &[Token])>
 }
 
 /// What stands between `switch` and its cases, up to them.
+#[inline(never)]
 #[cycle(parser)]
 fn before_cases<'a>(
     alloc: Global,
@@ -406,6 +407,7 @@ fn value<'a>(
 }
 
 /// `switch`, of its parts.
+#[inline(never)]
 fn switched(
     alloc: Global,
     label: Option<Token>,

@@ -19,7 +19,6 @@ use odc_nodes::nodes;
 use odc_syntax::grammar::{Mode, Use};
 use odc_syntax::token::{Token, TokenKind};
 use odc_syntax::tree::Expr;
-use odc_text::place::Place;
 use odc_tree::discard::discard_type;
 use std::alloc::Global;
 
@@ -73,6 +72,7 @@ pub fn unary<'a>(
 }
 
 /// An operand behind `cast` and a type in parentheses, whose parts may have this depth.
+#[inline(never)]
 #[cycle(parser)]
 fn cast<'a>(
     alloc: Global,
