@@ -2,7 +2,6 @@
 -- name that is a type ends before a `.` that no name follows; but as far as the `.` the tokens begin a name
 -- of a package, too. So one token more may have to be read until there is one reading.
 use Rattle.std.specs.Prelude.{◌≡◌, ℕ, ◌-◌, ◌*◌, ◌≤◌, Bool, true, false, List, ◌∷◌, ◌++◌, length, Result, Ok, Err}
-use Rattle.std.specs.Borrow.{Bor}
 use Rattle.odc_syntax.specs.declared.token.Token.{Token}
 use Rattle.odc_syntax.specs.declared.token.TokenKind.{TokenKind}
 use Rattle.odc_syntax.specs.declared.token.TokenKind.TheVariants.{Dot, Name, OpenParen}
@@ -12,6 +11,9 @@ use Rattle.odc_syntax.specs.Grammar.{Sym}
 use Rattle.odc_syntax.specs.Derives.{Reach, StartsWithout}
 use Rattle.odc_lookahead.specs.declared.end.End.{End}
 use Rattle.odc_lookahead.specs.declared.end.End.TheVariants.{Sure, BeforeDot}
+use Rattle.odc_lookahead.specs.declared.read.Closed.{Closed}
+use Rattle.odc_lookahead.specs.declared.read.Read.{Read}
+use Rattle.odc_lookahead.specs.declared.read.ReadTo.{ReadTo}
 use Rattle.odc_lookahead.specs.declared.stop.Stop.{Stop}
 use Rattle.odc_lookahead.specs.declared.stop.Stop.TheVariants as stop
 use Rattle.odc_lookahead.specs.Exact.{size, Clear, Part, Comes, Remains, Found, Broken, TooDeep, Answer, Yes, Syntax, Deep, NoMemory}
@@ -63,9 +65,9 @@ ExactAs u p cont b ts (Syntax left) = Broken p cont b ts left
 ExactAs u p cont b ts (Deep left) = TooDeep p cont b ts left
 ExactAs u p cont b ts NoMemory = Unit {0}
 
--- a value, its depth, the tokens behind it, and how it ends
-abbrev pub seen_to : {A V : Type 0} → (A → V) → Result (A × ℕ × Bor (List Token) × End) Stop → Answer (V × End)
-seen_to view (Ok r) = Yes (view r.0, r.3) r.1 r.2.now
+-- what is read, or why nothing is, as an answer, with how it ends
+abbrev pub seen_to : {A V : Type 0} → (A → V) → Result (ReadTo A) Stop → Answer (V × End)
+seen_to view (Ok r) = Yes (view r.tree, r.end) r.height r.rest.now
 seen_to view (Err e) = refused e
 
 -- why no suffix is read behind what ends so, whose first token stands before these, where none may follow:
@@ -81,7 +83,7 @@ ends_operand Parameter = false
 ends_operand Operand = true
 ends_operand OperandEnd = true
 
--- a value, its closing token, its depth, and the tokens behind them
-abbrev pub closed_by : {A V : Type 0} → (A → V) → Result (A × Token × ℕ × Bor (List Token)) Stop → Answer (V × (Token × Unit {0}))
-closed_by view (Ok r) = Yes (view r.0, (r.1, tt)) r.2 r.3.now
+-- what is read up to a closing token, or why it isn't, as an answer
+abbrev pub closed_by : {A V : Type 0} → (A → V) → Result (Read (Closed A)) Stop → Answer (V × (Token × Unit {0}))
+closed_by view (Ok r) = Yes (view r.tree.part, (r.tree.close, tt)) r.height r.rest.now
 closed_by view (Err e) = refused e

@@ -1,6 +1,5 @@
 -- What the parse functions' results answer.
 use Rattle.std.specs.Prelude.{◌≡◌, ℕ, Bool, false, List, [], ◌∷◌, length, Result, Ok, Err, Option, Some, None}
-use Rattle.std.specs.Borrow.{Bor}
 use Rattle.odc_syntax.specs.declared.token.Token.{Token}
 use Rattle.odc_syntax.specs.declared.token.TokenKind.{TokenKind}
 use Rattle.odc_syntax.specs.Derives.{StartsWithout}
@@ -11,6 +10,7 @@ use Rattle.odc_syntax.specs.declared.token.TokenKind.TheVariants as kind
 use Rattle.odc_lookahead.specs.declared.unary.UnaryForm.{UnaryForm}
 use Rattle.odc_lookahead.specs.declared.unary.UnaryForm.TheVariants as form
 use Rattle.odc_syntax.specs.declared.grammar.Level.{Level}
+use Rattle.odc_lookahead.specs.declared.read.Read.{Read}
 use Rattle.odc_lookahead.specs.declared.stop.Stop.{Stop}
 use Rattle.odc_lookahead.specs.declared.stop.Stop.TheVariants as stop
 use Rattle.odc_syntax.specs.declared.grammar.Mode.{Mode}
@@ -23,9 +23,9 @@ refused (stop.Syntax left) = Syntax left
 refused (stop.Deep left) = Deep left
 refused stop.Memory = NoMemory
 
--- a value, its depth, and the tokens behind it
-abbrev pub seen : {A V : Type 0} → (A → V) → Result (A × ℕ × Bor (List Token)) Stop → Answer V
-seen view (Ok r) = Yes (view r.0) r.1 r.2.now
+-- what is read, or why nothing is, as an answer; `view` gives the clean form of the tree
+abbrev pub seen : {A V : Type 0} → (A → V) → Result (Read A) Stop → Answer V
+seen view (Ok r) = Yes (view r.tree) r.height r.rest.now
 seen view (Err e) = refused e
 
 -- why a token of this kind is not read from the front: it isn't there, or it is and nothing may follow

@@ -7,7 +7,7 @@ use Rattle.odc_syntax.specs.declared.token.TokenKind.TheVariants as kind
 use Rattle.odc_syntax.specs.declared.token.Word.TheVariants as word
 use Rattle.odc_syntax.specs.declared.grammar.Use.{Use}
 use Rattle.odc_syntax.specs.declared.grammar.Use.TheVariants.{Plain, Parameter, Operand, OperandEnd}
-use Rattle.odc_syntax.specs.Tree.{Type_, Fields, Types, Enumerators, Params, Length, Expr}
+use Rattle.odc_syntax.specs.Tree.{Type_, Fields, Types, Enumerators, Params, Length}
 use Rattle.odc_syntax.specs.Tree as tree
 use Rattle.odc_syntax.specs.Grammar as g
 use Rattle.odc_syntax.specs.Derives.{StartsWithout}
@@ -19,8 +19,7 @@ use Rattle.odc_lookahead.specs.declared.stop.Stop.{Stop}
 use Rattle.std.specs.declared.alloc.Global.{Global}
 use Rattle.std.specs.Borrow.{Bor}
 use Rattle.odc_syntax.specs.declared.tree.Enumerator.{Enumerator}
-use Rattle.odc_syntax.specs.declared.tree.Field.{Field}
-use Rattle.odc_syntax.specs.View.{type, maybe_expr}
+use Rattle.odc_syntax.specs.View.{maybe_expr}
 
 -- lists up to their closing tokens
 abbrev pub fields_line : Use → Part (Fields × (Token × Unit {0}))
@@ -126,14 +125,10 @@ abbrev pub Convention : List Token → Option Token → List Token → Type 0
 Convention ts None us = Uncalled ts us
 Convention ts (Some t) us = Called ts t us
 
--- names with their colon, and a field with its colon
+-- names with their colon
 abbrev pub named_by : Result (Vec Token Global × Token × Bor (List Token)) Stop → Answer (List Token × (Token × Unit {0}))
 named_by (Ok r) = Yes (r.0.items, (r.1, tt)) 0 r.2.now
 named_by (Err e) = refused e
-
-abbrev pub field_by : Result (Field × Token × ℕ × Bor (List Token)) Stop → Answer (List Token × (Token × Type_))
-field_by (Ok r) = Yes (r.0.names.items, (r.1, type r.0.ty)) r.2 r.3.now
-field_by (Err e) = refused e
 
 -- the type of an enum, if it is given, up to the opening brace
 abbrev pub base_line : Use → Part (tree.MaybeType × (Token × Unit {0}))
@@ -142,7 +137,3 @@ base_line u = then_ (g.maybe_type u) (then_ (token kind.OpenBrace) done)
 -- a type, and what the names before it are given by default
 abbrev pub typed_line : Use → Part (Type_ × tree.MaybeExpr)
 typed_line u c v = g.type_ u c v.0 ∷ g.given c v.1 ∷ []
-
-abbrev pub typed_by : Result (Type_ × Option Expr × ℕ × Bor (List Token)) Stop → Answer (Type_ × tree.MaybeExpr)
-typed_by (Ok r) = Yes (type r.0, maybe_expr r.1) r.2 r.3.now
-typed_by (Err e) = refused e

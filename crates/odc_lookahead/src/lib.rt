@@ -13,6 +13,7 @@ pub mod lists;
 pub mod name_lists;
 pub mod operand;
 pub mod operators;
+pub mod read;
 pub mod refused;
 pub mod shape;
 pub mod statement_form;

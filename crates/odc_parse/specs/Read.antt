@@ -15,6 +15,7 @@ use Rattle.odc_lookahead.specs.declared.error.ParseError.{ParseError}
 use Rattle.odc_lookahead.specs.declared.error.ParseError.TheVariants.{Fault, Memory}
 use Rattle.odc_lookahead.specs.Law.{place_of}
 use Rattle.odc_syntax.specs.Tree.{Decl, Decls}
+use Rattle.odc_parse.specs.declared.file.Contents.{Contents}
 use Rattle.odc_syntax.specs.Grammar.{import_, declaration}
 use Rattle.odc_syntax.specs.Derives.{StartsWithout}
 use Rattle.odc_lookahead.specs.Exact.{Answer, Exact, one}
@@ -44,8 +45,8 @@ pub data NameRead (ts : List Token) : Option Token → List Token → Type 0 whe
   missing : StartsWithout Name ts → NameRead ts None ts
 
 -- the package's name and the declarations that were read
-abbrev pub file_view : Token × Vec decl.Decl Global → Token × Decls
-file_view f = (f.0, decls f.1.items)
+abbrev pub file_view : Contents → Token × Decls
+file_view c = (c.package, decls c.decls.items)
 
 -- the fault where a file isn't read
 abbrev pub Unread : List Token → Place → Stop → ParseError → Type 0

@@ -8,6 +8,7 @@ ghost use Rattle.odc_lookahead.specs.Exact.{Exact, one};
 ghost use Rattle.odc_lookahead.specs.Read.{seen};
 ghost use Rattle.odc_parse.specs.Read.{NameRead, nothing_follows};
 
+use odc_lookahead::read::Read;
 use odc_lookahead::stop::Stop;
 use odc_lookahead::tokens::{expect, strip};
 use odc_syntax::token::{Token, TokenKind};
@@ -15,21 +16,20 @@ use odc_syntax::tree::{Decl, DeclKind};
 use odc_tree::node::decl_node;
 use std::alloc::{AllocError, Global};
 
-/// An import at the front of the tokens, its depth, and the tokens behind it.
-pub fn import(alloc: Global, tokens: &[Token]) -> Result<(Decl, u16, &[Token]), Stop>
+/// An import at the front of the tokens.
+pub fn import<'a>(alloc: Global, tokens: &'a [Token]) -> Result<Read<'a, Decl>, Stop>
     ensures exact { Exact (one g.import_) nothing_follows 200 tokens.now (seen decl result) }
-    ensures shorter { IfOk result (λ r. length r.2.now < length tokens.now) }
-    ensures low { IfOk result (λ r. r.1 ≤ 1) }
+    ensures shorter { IfOk result (λ r. length r.rest.now < length tokens.now) }
+    ensures low { IfOk result (λ r. r.height ≤ 1) }
 {
-    let (word, behind) = match expect(tokens, TokenKind::Import, true) {
-        Ok(read) => read,
-        Err(stop) => return Err(stop),
-    };
+    let (word, behind) = expect(tokens, TokenKind::Import, true)?;
     let (name, behind_name) = optional_name(behind);
-    match expect(behind_name, TokenKind::Text, true) {
-        Ok((path, rest)) => Ok((import_of(alloc, word, name, path)?, 1, rest)),
-        Err(stop) => Err(stop),
-    }
+    let (path, rest) = expect(behind_name, TokenKind::Text, true)?;
+    Ok(Read {
+        tree: import_of(alloc, word, name, path)?,
+        height: 1,
+        rest,
+    })
 }
 
 /// A name, where one stands first, and the tokens behind it.

@@ -10,6 +10,7 @@ ghost use Rattle.odc_lookahead.specs.Read.{seen, StartsWith};
 ghost use Rattle.odc_parse.specs.Read.{BeginsItem, ItemRead, list_view, starts_item};
 
 use crate::import::import;
+use odc_lookahead::read::Read;
 use odc_lookahead::stop::Stop;
 use odc_lookahead::tokens::{expect, first, same_kind, within};
 use odc_parse_expr::declaration::declaration;
@@ -21,15 +22,19 @@ use odc_tree::list::push_decl;
 use std::alloc::Global;
 
 /// The imports and declarations at the front of the tokens, each with its semicolon.
-pub fn items<'a>(alloc: Global, tokens: &'a [Token]) -> Result<(Vec<Decl>, u16, &'a [Token]), Stop>
+pub fn items<'a>(alloc: Global, tokens: &'a [Token]) -> Result<Read<'a, Vec<Decl>>, Stop>
     ensures exact { Exact (one g.decls) starts_item 200 tokens.now (seen list_view result) }
-    ensures low { IfOk result (λ r. r.1 ≤ 200) }
+    ensures low { IfOk result (λ r. r.height ≤ 200) }
 {
     let mut list = Vec::new(alloc);
     let mut height: u16 = 0;
     let mut rest = tokens;
     'list: while begins_item(rest) {
-        let (one, depth, behind) = match item(alloc, rest) {
+        let Read {
+            tree: one,
+            height: depth,
+            rest: behind,
+        } = match item(alloc, rest) {
             Ok(read) => read,
             Err(stop) => return Err(discard_decls(list, stop)),
         };
@@ -41,7 +46,11 @@ pub fn items<'a>(alloc: Global, tokens: &'a [Token]) -> Result<(Vec<Decl>, u16, 
         height = height.max(depth);
         rest = after;
     }
-    Ok((list, height, rest))
+    Ok(Read {
+        tree: list,
+        height,
+        rest,
+    })
 }
 
 /// Whether an import or a declaration may stand here.
@@ -65,9 +74,9 @@ fn starts_item(kind: TokenKind) -> bool
 }
 
 /// An import or a declaration.
-fn item<'a>(alloc: Global, tokens: &'a [Token]) -> Result<(Decl, u16, &'a [Token]), Stop>
+fn item<'a>(alloc: Global, tokens: &'a [Token]) -> Result<Read<'a, Decl>, Stop>
     ensures exact { BeginsItem tokens.now → ItemRead tokens.now (seen decl result) }
-    ensures shorter { IfOk result (λ r. length r.2.now < length tokens.now) }
+    ensures shorter { IfOk result (λ r. length r.rest.now < length tokens.now) }
 {
     if begins_import(tokens) {
         import(alloc, tokens)

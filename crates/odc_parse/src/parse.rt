@@ -6,9 +6,10 @@ ghost use Rattle.odc_parse.specs.File.{IsFile, NoFile};
 ghost use Rattle.odc_lookahead.specs.Refused.{NoneRefused};
 ghost use Rattle.odc_parse.specs.Read.{Unread};
 
-use crate::file::file;
+use crate::file::{Contents, file};
 use odc_lookahead::blame::place_of;
 use odc_lookahead::error::ParseError;
+use odc_lookahead::read::Read;
 use odc_lookahead::refused::first_refused;
 use odc_lookahead::stop::Stop;
 use odc_syntax::token::Tokens;
@@ -40,19 +41,22 @@ fn clean_file(alloc: Global, t: &Tokens) -> Result<FileTree, ParseError>
     ensures end { IfOk result (λ f. f.end ≡ t.now.end) }
     ensures no_file { NoneRefused t.now.list.items 0 (length t.now.list.items) → IfErr result (NoFile t.now.list.items t.now.end) }
 {
-    let (read, _depth, rest) = match file(alloc, t.list.as_slice()) {
+    let Read {
+        tree: Contents { package, decls },
+        height: _height,
+        rest,
+    } = match file(alloc, t.list.as_slice()) {
         Ok(read) => read,
         Err(stop) => return Err(unread(t, stop)),
     };
-    let (name, list) = read;
     if rest.is_empty() {
         Ok(FileTree {
-            name,
-            decls: list,
+            name: package,
+            decls,
             end: t.end,
         })
     } else {
-        Err(discard_decls(list, unread(t, Stop::Syntax(rest.len()))))
+        Err(discard_decls(decls, unread(t, Stop::Syntax(rest.len()))))
     }
 }
 

@@ -1,6 +1,5 @@
 -- Statements, blocks and `if`: answers in the words of the functions' results.
 use Rattle.std.specs.Prelude.{Result, Ok, Err, IfOk}
-use Rattle.std.specs.Borrow.{Bor}
 use Rattle.std.proofs.Common.{◌≡◌, ℕ, suc, ◌<◌, ◌≤◌, arith, true, List, [], ◌∷◌, length, refl, sym, ◌∙◌, ap, subst, ◌⊎◌, inl, inr}
 use Rattle.odc_text.specs.declared.place.Place.{Place}
 use Rattle.odc_syntax.specs.declared.token.Token.{Token}
@@ -11,6 +10,7 @@ use Rattle.odc_syntax.specs.Tree.{Expr, Header, Stmt, stmt, StmtKind, Stmts}
 use Rattle.odc_syntax.specs.Tree as tree
 use Rattle.odc_syntax.specs.Grammar as g
 use Rattle.odc_syntax.specs.Derives.{StartsWithout}
+use Rattle.odc_lookahead.specs.declared.read.Read.{Read}
 use Rattle.odc_lookahead.specs.declared.stop.Stop.{Stop}
 use Rattle.odc_lookahead.specs.declared.stop.Stop.TheVariants as stop
 use Rattle.odc_parse_expr.specs.Blocks.{BodyOver}
@@ -71,6 +71,6 @@ pub placed_so : (p q : Place) (k : StmtKind) (w : Stmt) → p ≡ q → w ≡ st
 placed_so p q k w e f = ap (λ (x : Place). stmt x k) (sym e) ∙ sym f
 
 -- what is shorter than the tokens behind the first is shorter than all
-pub shorter_by : {A : Type 0} (r : Result (A × ℕ × Bor (List Token)) Stop) (us ts : List Token) → length us < length ts → IfOk r (λ x. length x.2.now ≤ length us) → IfOk r (λ x. length x.2.now < length ts)
+pub shorter_by : {A : Type 0} (r : Result (Read A) Stop) (us ts : List Token) → length us < length ts → IfOk r (λ x. length x.rest.now ≤ length us) → IfOk r (λ x. length x.rest.now < length ts)
 shorter_by (Ok x) us ts h k = omega (arith, h, k)
 shorter_by (Err e) us ts h k = tt

@@ -1,5 +1,6 @@
 -- The clean forms of what stands behind an operand, and of arguments.
-use Rattle.std.specs.Prelude.{Option}
+use Rattle.std.specs.Prelude.{Option, Vec}
+use Rattle.std.specs.declared.alloc.Global.{Global}
 use Rattle.odc_syntax.specs.declared.token.Token.{Token}
 use Rattle.odc_syntax.specs.declared.tree.Arg.{Arg}
 use Rattle.odc_syntax.specs.Tree as tree
@@ -7,8 +8,7 @@ use Rattle.odc_syntax.specs.Grammar as g
 use Rattle.odc_syntax.specs.View.{expr, type, args, maybe_expr}
 use Rattle.odc_parse_expr.specs.declared.postfix.Suffix.{Suffix}
 use Rattle.odc_parse_expr.specs.declared.postfix.Suffix.TheVariants as s
-use Rattle.odc_parse_expr.specs.declared.postfix.HighEnd.{HighEnd}
-use Rattle.odc_parse_expr.specs.declared.arguments.ArgumentList.{ArgumentList}
+use Rattle.odc_lookahead.specs.declared.read.Closed.{Closed}
 
 abbrev pub suffix : Suffix → g.Suffix
 suffix (s.Select at t) = g.select at t
@@ -21,12 +21,12 @@ suffix s.OrReturn = g.or_return
 suffix (s.Literal xs) = g.literal (args xs.items)
 
 -- the end of a cut, and its bracket
-abbrev pub high_of : HighEnd → tree.MaybeExpr × (Token × Unit {0})
-high_of h = (maybe_expr h.value, (h.close, tt))
+abbrev pub high_of : Closed (Option tree.Expr) → tree.MaybeExpr × (Token × Unit {0})
+high_of h = (maybe_expr h.part, (h.close, tt))
 
 abbrev pub argument : Arg → Option Token × tree.Expr
 argument x = (x.name, expr x.value)
 
 -- arguments, and their closing token
-abbrev pub argument_list : ArgumentList → tree.Args × (Token × Unit {0})
-argument_list l = (args l.args.items, (l.close, tt))
+abbrev pub argument_list : Closed (Vec Arg Global) → tree.Args × (Token × Unit {0})
+argument_list l = (args l.part.items, (l.close, tt))

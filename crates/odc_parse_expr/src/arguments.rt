@@ -12,6 +12,7 @@ ghost use Rattle.odc_parse_expr.specs.Suffixes.{argument, argument_list};
 use crate::binary::level;
 use odc_lookahead::lists::after_item;
 use odc_lookahead::operators::going_on;
+use odc_lookahead::read::{Closed, Read};
 use odc_lookahead::stop::Stop;
 use odc_lookahead::tokens::{strip, within};
 use odc_nodes::nodes;
@@ -22,12 +23,6 @@ use odc_tree::discard::discard_args;
 use odc_tree::list::push_arg;
 use std::alloc::Global;
 
-/// Arguments, with the token that closes them.
-pub struct ArgumentList {
-    pub args: Vec<Arg>,
-    pub close: Token,
-}
-
 /// Arguments between commas, up to the closing token.
 #[cycle(parser)]
 pub fn arguments<'a>(
@@ -35,19 +30,30 @@ pub fn arguments<'a>(
     close: TokenKind,
     tokens: &'a [Token],
     depth: u8,
-) -> Result<(ArgumentList, u16, &'a [Token]), Stop>
+) -> Result<Read<'a, Closed<Vec<Arg>>>, Stop>
     ensures exact { ClosesArguments close → Exact (arguments close) nothing_continues depth tokens.now (seen argument_list result) }
-    ensures shorter { IfOk result (λ r. length r.2.now < length tokens.now) }
-    ensures low { IfOk result (λ r. r.1 ≤ depth + 1) }
+    ensures shorter { IfOk result (λ r. length r.rest.now < length tokens.now) }
+    ensures low { IfOk result (λ r. r.height ≤ depth + 1) }
 {
     let mut args = Vec::new(alloc);
     if let Some((token, rest)) = strip(tokens, close) {
-        return Ok((ArgumentList { args, close: token }, 0, rest));
+        return Ok(Read {
+            tree: Closed {
+                part: args,
+                close: token,
+            },
+            height: 0,
+            rest,
+        });
     }
     let mut height: u16 = 0;
     let mut rest = tokens;
     'items: loop {
-        let (item, n, after) = match argument(alloc, rest, depth) {
+        let Read {
+            tree: item,
+            height: n,
+            rest: after,
+        } = match argument(alloc, rest, depth) {
             Ok(read) => read,
             Err(error) => return Err(discard_args(args, error)),
         };
@@ -58,7 +64,14 @@ pub fn arguments<'a>(
             Err(error) => return Err(discard_args(args, error)),
         };
         match end {
-            Some(token) => return Ok((ArgumentList { args, close: token }, height, behind)),
+            Some(token) => return Ok(Read {
+                tree: Closed {
+                    part: args,
+                    close: token,
+                },
+                height,
+                rest: behind,
+            }),
             None => rest = behind,
         }
     }
@@ -66,34 +79,46 @@ pub fn arguments<'a>(
 
 /// An argument: an expression, which may stand behind a name and `=`.
 #[cycle(parser)]
-fn argument<'a>(
-    alloc: Global,
-    tokens: &'a [Token],
-    depth: u8,
-) -> Result<(Arg, u16, &'a [Token]), Stop>
+fn argument<'a>(alloc: Global, tokens: &'a [Token], depth: u8) -> Result<Read<'a, Arg>, Stop>
     ensures exact { Exact arg_item continues_argument depth tokens.now (seen argument result) }
-    ensures shorter { IfOk result (λ r. length r.2.now < length tokens.now) }
-    ensures low { IfOk result (λ r. r.1 ≤ depth + 1) }
+    ensures shorter { IfOk result (λ r. length r.rest.now < length tokens.now) }
+    ensures low { IfOk result (λ r. r.height ≤ depth + 1) }
 {
     let (name, behind) = match strip(tokens, TokenKind::Name) {
         Some(found) => found,
         None => {
             return match level(alloc, Level::Or, Mode::Free, tokens, depth) {
-                Ok((value, height, after)) => Ok((Arg { name: None, value }, height, after)),
+                Ok(
+                    Read {
+                        tree: value,
+                        height,
+                        rest: after,
+                    },
+                ) => Ok(Read {
+                    tree: Arg { name: None, value },
+                    height,
+                    rest: after,
+                }),
                 Err(error) => Err(error),
             };
         }
     };
     if let Some((_assign, rest)) = strip(behind, TokenKind::Assign) {
         return match level(alloc, Level::Or, Mode::Free, rest, depth) {
-            Ok((value, height, after)) => Ok((
-                Arg {
+            Ok(
+                Read {
+                    tree: value,
+                    height,
+                    rest: after,
+                },
+            ) => Ok(Read {
+                tree: Arg {
                     name: Some(name),
                     value,
                 },
                 height,
-                after,
-            )),
+                rest: after,
+            }),
             Err(error) => Err(error),
         };
     }
@@ -101,24 +126,38 @@ fn argument<'a>(
         return name_alone(alloc, name, behind);
     }
     match level(alloc, Level::Or, Mode::Free, tokens, depth) {
-        Ok((value, height, after)) => Ok((Arg { name: None, value }, height, after)),
+        Ok(
+            Read {
+                tree: value,
+                height,
+                rest: after,
+            },
+        ) => Ok(Read {
+            tree: Arg { name: None, value },
+            height,
+            rest: after,
+        }),
         Err(error) => Err(error),
     }
 }
 
 /// A name where no expression may stand any more: it may be the name of an argument, and as an expression
 /// it is too deep.
-fn name_alone(alloc: Global, name: Token, behind: &[Token]) -> Result<(Arg, u16, &[Token]), Stop>
+fn name_alone(alloc: Global, name: Token, behind: &[Token]) -> Result<Read<'_, Arg>, Stop>
     ensures exact { name.kind ≡ kind.Name → StartsWithout kind.Assign behind.now
         → Exact arg_item continues_argument 0 (name ∷ behind.now) (seen argument result) }
-    ensures shorter { IfOk result (λ r. length r.2.now ≤ length behind.now) }
-    ensures low { IfOk result (λ r. r.1 ≤ 1) }
+    ensures shorter { IfOk result (λ r. length r.rest.now ≤ length behind.now) }
+    ensures low { IfOk result (λ r. r.height ≤ 1) }
 {
     match going_on(Mode::Free, behind) {
         Some((_token, rest)) => Err(Stop::Deep(rest.len())),
         None => {
             let value = nodes::leaf(alloc, name.at, ExprKind::Name(name))?;
-            Ok((Arg { name: None, value }, 1, behind))
+            Ok(Read {
+                tree: Arg { name: None, value },
+                height: 1,
+                rest: behind,
+            })
         }
     }
 }

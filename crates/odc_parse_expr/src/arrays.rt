@@ -17,6 +17,7 @@ ghost use Rattle.odc_lookahead.specs.TypeParts.{length_line, shaped, Bracketed, 
 use crate::binary::level;
 use crate::types::{ty, type_to};
 use odc_lookahead::end::{End, at_end};
+use odc_lookahead::read::{Closed, Read, ReadTo};
 use odc_lookahead::shape::{Shape, counts, strip_dollar};
 use odc_lookahead::stop::Stop;
 use odc_lookahead::tokens::{expect, strip, within};
@@ -37,10 +38,10 @@ pub fn array<'a>(
     at: Place,
     tokens: &'a [Token],
     depth: u8,
-) -> Result<(Type, u16, &'a [Token], End), Stop>
+) -> Result<ReadTo<'a, Type>, Stop>
     ensures exact { (ts : List SpecToken) → Bracketed shape at ts tokens.now → ExactAs used (one (g.constructed used)) nothing_continues (suc depth) ts (seen_to type result) }
-    ensures shorter { IfOk result (λ r. prelude.length r.2.now ≤ prelude.length tokens.now) }
-    ensures low { IfOk result (λ r. r.1 ≤ depth + 1) }
+    ensures shorter { IfOk result (λ r. prelude.length r.rest.now ≤ prelude.length tokens.now) }
+    ensures low { IfOk result (λ r. r.height ≤ depth + 1) }
 {
     match strip(tokens, TokenKind::Question) {
         Some((_question, behind)) => counted(alloc, used, shape, at, behind, depth),
@@ -57,22 +58,36 @@ fn sized<'a>(
     at: Place,
     tokens: &'a [Token],
     depth: u8,
-) -> Result<(Type, u16, &'a [Token], End), Stop>
+) -> Result<ReadTo<'a, Type>, Stop>
     ensures exact { (ts : List SpecToken) → Bracketed shape at ts tokens.now → StartsWithout kind.Question tokens.now → ExactAs used (one (g.constructed used)) nothing_continues (suc depth) ts (seen_to type result) }
-    ensures shorter { IfOk result (λ r. prelude.length r.2.now ≤ prelude.length tokens.now) }
-    ensures low { IfOk result (λ r. r.1 ≤ depth + 1) }
+    ensures shorter { IfOk result (λ r. prelude.length r.rest.now ≤ prelude.length tokens.now) }
+    ensures low { IfOk result (λ r. r.height ≤ depth + 1) }
 {
-    let (count, _close, n, after) = match length(alloc, used, tokens, depth) {
+    let Read {
+        tree: Closed {
+            part: count,
+            close: _close,
+        },
+        height: n,
+        rest: after,
+    } = match length(alloc, used, tokens, depth) {
         Ok(read) => read,
         Err(error) => return Err(error),
     };
     match type_to(alloc, at_end(used), after, depth) {
-        Ok((t, m, rest, end)) => Ok((
-            bracketed(alloc, at, shape, count, t)?,
-            n.max(m) + 1,
+        Ok(
+            ReadTo {
+                tree: t,
+                height: m,
+                rest,
+                end,
+            },
+        ) => Ok(ReadTo {
+            tree: bracketed(alloc, at, shape, count, t)?,
+            height: n.max(m) + 1,
             rest,
             end,
-        )),
+        }),
         Err(error) => Err(discard_length(count, error)),
     }
 }
@@ -86,26 +101,30 @@ fn counted<'a>(
     at: Place,
     tokens: &'a [Token],
     depth: u8,
-) -> Result<(Type, u16, &'a [Token], End), Stop>
+) -> Result<ReadTo<'a, Type>, Stop>
     ensures exact { (ts : List SpecToken) → Questioned shape at ts tokens.now → ExactAs used (one (g.constructed used)) nothing_continues (suc depth) ts (seen_to type result) }
-    ensures shorter { IfOk result (λ r. prelude.length r.2.now ≤ prelude.length tokens.now) }
-    ensures low { IfOk result (λ r. r.1 ≤ depth + 1) }
+    ensures shorter { IfOk result (λ r. prelude.length r.rest.now ≤ prelude.length tokens.now) }
+    ensures low { IfOk result (λ r. r.height ≤ depth + 1) }
 {
     let (_close, inner) = match expect(tokens, TokenKind::CloseBracket, true) {
         Ok(found) => found,
         Err(error) => return Err(error),
     };
-    let (t, height, rest) = match ty(alloc, used, inner, depth) {
+    let Read {
+        tree: t,
+        height,
+        rest,
+    } = match ty(alloc, used, inner, depth) {
         Ok(read) => read,
         Err(error) => return Err(error),
     };
     if counts(used, rest) {
-        Ok((
-            bracketed(alloc, at, shape, Length::Counted, t)?,
-            height + 1,
+        Ok(ReadTo {
+            tree: bracketed(alloc, at, shape, Length::Counted, t)?,
+            height: height + 1,
             rest,
-            End::Sure,
-        ))
+            end: End::Sure,
+        })
     } else {
         Err(discard_type(t, Stop::Syntax(rest.len())))
     }
@@ -118,16 +137,30 @@ fn length<'a>(
     used: Use,
     tokens: &'a [Token],
     depth: u8,
-) -> Result<(Length, Token, u16, &'a [Token]), Stop>
+) -> Result<Read<'a, Closed<Length>>, Stop>
     ensures exact { Exact (length_line used) nothing_continues depth tokens.now (closed_by length result) }
-    ensures shorter { IfOk result (λ r. prelude.length r.3.now < prelude.length tokens.now) }
-    ensures low { IfOk result (λ r. r.2 ≤ depth) }
+    ensures shorter { IfOk result (λ r. prelude.length r.rest.now < prelude.length tokens.now) }
+    ensures low { IfOk result (λ r. r.height ≤ depth) }
 {
     match strip(tokens, TokenKind::CloseBracket) {
-        Some((close, rest)) => Ok((Length::Slice, close, 0, rest)),
+        Some((close, rest)) => Ok(Read {
+            tree: Closed {
+                part: Length::Slice,
+                close,
+            },
+            height: 0,
+            rest,
+        }),
         None => match strip(tokens, TokenKind::Dynamic) {
             Some((_dynamic, behind)) => match expect(behind, TokenKind::CloseBracket, true) {
-                Ok((close, rest)) => Ok((Length::Dynamic, close, 0, rest)),
+                Ok((close, rest)) => Ok(Read {
+                    tree: Closed {
+                        part: Length::Dynamic,
+                        close,
+                    },
+                    height: 0,
+                    rest,
+                }),
                 Err(error) => Err(error),
             },
             None => match strip_dollar(used, tokens) {
@@ -144,17 +177,24 @@ fn parametric<'a>(
     tokens: &'a [Token],
     token: Token,
     behind: &'a [Token],
-) -> Result<(Length, Token, u16, &'a [Token]), Stop>
+) -> Result<Read<'a, Closed<Length>>, Stop>
     ensures exact { used ≡ Parameter → tokens.now ≡ token ∷ behind.now → token.kind ≡ kind.Dollar → (b : ℕ) → Exact (length_line used) nothing_continues b tokens.now (closed_by length result) }
-    ensures shorter { IfOk result (λ r. prelude.length r.3.now ≤ prelude.length behind.now) }
-    ensures low { IfOk result (λ r. r.2 ≤ 0) }
+    ensures shorter { IfOk result (λ r. prelude.length r.rest.now ≤ prelude.length behind.now) }
+    ensures low { IfOk result (λ r. r.height ≤ 0) }
 {
     let (name, after) = match expect(behind, TokenKind::Name, true) {
         Ok(found) => found,
         Err(error) => return Err(error),
     };
     match expect(after, TokenKind::CloseBracket, true) {
-        Ok((close, rest)) => Ok((Length::Dollar(name), close, 0, rest)),
+        Ok((close, rest)) => Ok(Read {
+            tree: Closed {
+                part: Length::Dollar(name),
+                close,
+            },
+            height: 0,
+            rest,
+        }),
         Err(error) => Err(error),
     }
 }
@@ -166,18 +206,29 @@ fn fixed<'a>(
     used: Use,
     tokens: &'a [Token],
     depth: u8,
-) -> Result<(Length, Token, u16, &'a [Token]), Stop>
+) -> Result<Read<'a, Closed<Length>>, Stop>
     ensures exact { StartsWithout kind.CloseBracket tokens.now → StartsWithout kind.Dynamic tokens.now → (used ≡ Parameter → StartsWithout kind.Dollar tokens.now)
         → Exact (length_line used) nothing_continues depth tokens.now (closed_by length result) }
-    ensures shorter { IfOk result (λ r. prelude.length r.3.now < prelude.length tokens.now) }
-    ensures low { IfOk result (λ r. r.2 ≤ depth) }
+    ensures shorter { IfOk result (λ r. prelude.length r.rest.now < prelude.length tokens.now) }
+    ensures low { IfOk result (λ r. r.height ≤ depth) }
 {
-    let (e, height, after) = match level(alloc, Level::Or, Mode::Free, tokens, depth) {
+    let Read {
+        tree: e,
+        height,
+        rest: after,
+    } = match level(alloc, Level::Or, Mode::Free, tokens, depth) {
         Ok(read) => read,
         Err(error) => return Err(error),
     };
     match expect(after, TokenKind::CloseBracket, within(height, depth)) {
-        Ok((close, rest)) => Ok((Length::Fixed(e), close, height, rest)),
+        Ok((close, rest)) => Ok(Read {
+            tree: Closed {
+                part: Length::Fixed(e),
+                close,
+            },
+            height,
+            rest,
+        }),
         Err(error) => Err(discard_expr(e, error)),
     }
 }

@@ -10,6 +10,7 @@ ghost use Rattle.odc_lookahead.specs.Sets.{continues, continues_item};
 
 use crate::unary::unary;
 use odc_lookahead::operators::{later, operator};
+use odc_lookahead::read::Read;
 use odc_lookahead::stop::Stop;
 use odc_nodes::nodes;
 use odc_syntax::grammar::{Level, Mode};
@@ -19,6 +20,7 @@ use odc_tree::discard::discard_expr;
 use std::alloc::Global;
 
 /// An expression of a level: any expression at the loosest.
+#[inline(always)]
 #[cycle(parser)]
 pub fn level<'a>(
     alloc: Global,
@@ -26,10 +28,11 @@ pub fn level<'a>(
     mode: Mode,
     tokens: &'a [Token],
     depth: u8,
-) -> Result<(Expr, u16, &'a [Token]), Stop>
+) -> Result<Read<'a, Expr>, Stop>
     ensures exact { Exact (one (g.chain level mode)) (continues level mode) depth tokens.now (seen expr result) }
-    ensures shorter { IfOk result (λ r. length r.2.now < length tokens.now) }
-    ensures low { IfOk result (λ r. r.1 ≤ depth + 1) }
+    ensures shorter { IfOk result (λ r. length r.rest.now < length tokens.now) }
+    ensures low { IfOk result (λ r. r.height ≤ depth + 1) }
+    ensures fits { IfOk result (λ r. 0 < depth) }
 {
     match level {
         Level::Comparison => comparison(alloc, mode, tokens, depth),
@@ -40,6 +43,7 @@ pub fn level<'a>(
 }
 
 /// What the operators of a level stand between.
+#[inline(always)]
 #[cycle(parser)]
 fn item<'a>(
     alloc: Global,
@@ -47,10 +51,11 @@ fn item<'a>(
     mode: Mode,
     tokens: &'a [Token],
     depth: u8,
-) -> Result<(Expr, u16, &'a [Token]), Stop>
+) -> Result<Read<'a, Expr>, Stop>
     ensures exact { Exact (one (g.item of mode)) (continues_item of mode) depth tokens.now (seen expr result) }
-    ensures shorter { IfOk result (λ r. length r.2.now < length tokens.now) }
-    ensures low { IfOk result (λ r. r.1 ≤ depth + 1) }
+    ensures shorter { IfOk result (λ r. length r.rest.now < length tokens.now) }
+    ensures low { IfOk result (λ r. r.height ≤ depth + 1) }
+    ensures fits { IfOk result (λ r. 0 < depth) }
 {
     match of {
         Level::Or => level(alloc, Level::And, mode, tokens, depth),
@@ -69,12 +74,17 @@ fn chained<'a>(
     mode: Mode,
     tokens: &'a [Token],
     depth: u8,
-) -> Result<(Expr, u16, &'a [Token]), Stop>
+) -> Result<Read<'a, Expr>, Stop>
     ensures exact { g.chains of ≡ true → Exact (one (g.chain of mode)) (continues of mode) depth tokens.now (seen expr result) }
-    ensures shorter { IfOk result (λ r. length r.2.now < length tokens.now) }
-    ensures low { IfOk result (λ r. r.1 ≤ depth + 1) }
+    ensures shorter { IfOk result (λ r. length r.rest.now < length tokens.now) }
+    ensures low { IfOk result (λ r. r.height ≤ depth + 1) }
+    ensures fits { IfOk result (λ r. 0 < depth) }
 {
-    let (mut e, mut height, mut rest) = match item(alloc, of, mode, tokens, depth) {
+    let Read {
+        tree: mut e,
+        height: mut height,
+        rest: mut rest,
+    } = match item(alloc, of, mode, tokens, depth) {
         Ok(read) => read,
         Err(error) => return Err(error),
     };
@@ -82,7 +92,11 @@ fn chained<'a>(
         if height >= u16::from(depth) {
             return Err(discard_expr(e, Stop::Deep(behind.len())));
         }
-        let (right, n, after) = match item(alloc, of, later(mode), behind, depth - 1) {
+        let Read {
+            tree: right,
+            height: n,
+            rest: after,
+        } = match item(alloc, of, later(mode), behind, depth - 1) {
             Ok(read) => read,
             Err(error) => return Err(discard_expr(e, error)),
         };
@@ -90,7 +104,11 @@ fn chained<'a>(
         height = height.max(n) + 1;
         rest = after;
     }
-    Ok((e, height, rest))
+    Ok(Read {
+        tree: e,
+        height,
+        rest,
+    })
 }
 
 /// Two items with a comparison between them, or one alone.
@@ -100,26 +118,45 @@ fn comparison<'a>(
     mode: Mode,
     tokens: &'a [Token],
     depth: u8,
-) -> Result<(Expr, u16, &'a [Token]), Stop>
+) -> Result<Read<'a, Expr>, Stop>
     ensures exact { Exact (one (g.chain level.Comparison mode)) (continues level.Comparison mode) depth tokens.now (seen expr result) }
-    ensures shorter { IfOk result (λ r. length r.2.now < length tokens.now) }
-    ensures low { IfOk result (λ r. r.1 ≤ depth + 1) }
+    ensures shorter { IfOk result (λ r. length r.rest.now < length tokens.now) }
+    ensures low { IfOk result (λ r. r.height ≤ depth + 1) }
+    ensures fits { IfOk result (λ r. 0 < depth) }
 {
-    let (e, height, rest) = match item(alloc, Level::Comparison, mode, tokens, depth) {
+    let Read {
+        tree: e,
+        height,
+        rest,
+    } = match item(alloc, Level::Comparison, mode, tokens, depth) {
         Ok(read) => read,
         Err(error) => return Err(error),
     };
     let (op, token, behind) = match operator(Level::Comparison, rest) {
         Some(found) => found,
-        None => return Ok((e, height, rest)),
+        None => return Ok(Read {
+            tree: e,
+            height,
+            rest,
+        }),
     };
     if height >= u16::from(depth) {
         return Err(discard_expr(e, Stop::Deep(behind.len())));
     }
     match item(alloc, Level::Comparison, later(mode), behind, depth - 1) {
-        Ok((right, n, after)) => {
+        Ok(
+            Read {
+                tree: right,
+                height: n,
+                rest: after,
+            },
+        ) => {
             let whole = nodes::binary(alloc, e, token.at, op, right)?;
-            Ok((whole, height.max(n) + 1, after))
+            Ok(Read {
+                tree: whole,
+                height: height.max(n) + 1,
+                rest: after,
+            })
         }
         Err(error) => Err(discard_expr(e, error)),
     }

@@ -14,6 +14,7 @@ ghost use Rattle.odc_syntax.specs.declared.grammar.Mode.TheVariants.{Free};
 ghost use Rattle.odc_lookahead.specs.StatementSets.{continues_statement, continues_statements};
 
 use crate::statement::statement;
+use odc_lookahead::read::{Closed, Read};
 use odc_lookahead::stop::Stop;
 use odc_lookahead::tokens::{expect, strip, within};
 use odc_syntax::token::{Token, TokenKind};
@@ -24,25 +25,29 @@ use std::alloc::Global;
 
 /// Statements, up to what begins none.
 #[cycle(parser)]
-pub fn stmts<'a>(
-    alloc: Global,
-    tokens: &'a [Token],
-    depth: u8,
-) -> Result<(Vec<Stmt>, u16, &'a [Token]), Stop>
+pub fn stmts<'a>(alloc: Global, tokens: &'a [Token], depth: u8) -> Result<Read<'a, Vec<Stmt>>, Stop>
     ensures exact { Exact (one g.stmts) continues_statements depth tokens.now (seen stmt_list result) }
-    ensures shorter { IfOk result (λ r. length r.2.now ≤ length tokens.now) }
-    ensures low { IfOk result (λ r. r.1 ≤ depth + 1) }
+    ensures shorter { IfOk result (λ r. length r.rest.now ≤ length tokens.now) }
+    ensures low { IfOk result (λ r. r.height ≤ depth + 1) }
 {
     let mut list = Vec::new(alloc);
     let mut height: u16 = 0;
     let mut rest = tokens;
     'statements: loop {
         let start = behind_semicolons(rest);
-        let (s, n, after) = match statement(alloc, start, depth) {
+        let Read {
+            tree: s,
+            height: n,
+            rest: after,
+        } = match statement(alloc, start, depth) {
             Ok(read) => read,
             Err(error) => {
                 if stands_at(error, start.len()) {
-                    return Ok((list, height, start));
+                    return Ok(Read {
+                        tree: list,
+                        height,
+                        rest: start,
+                    });
                 }
                 return Err(discard_stmts(list, error));
             }
@@ -56,15 +61,13 @@ pub fn stmts<'a>(
                 }
                 rest = behind;
             }
-            None => return Ok((list, height, after)),
+            None => return Ok(Read {
+                tree: list,
+                height,
+                rest: after,
+            }),
         }
     }
-}
-
-/// Statements in braces, with the closing one.
-pub struct Braced {
-    pub stmts: Vec<Stmt>,
-    pub close: Token,
 }
 
 /// Statements up to the closing brace.
@@ -73,37 +76,54 @@ pub fn braces<'a>(
     alloc: Global,
     tokens: &'a [Token],
     depth: u8,
-) -> Result<(Braced, u16, &'a [Token]), Stop>
+) -> Result<Read<'a, Closed<Vec<Stmt>>>, Stop>
     ensures exact { Exact braces_line nothing_continues depth tokens.now (seen braces_of result) }
-    ensures shorter { IfOk result (λ r. length r.2.now < length tokens.now) }
-    ensures low { IfOk result (λ r. r.1 ≤ depth) }
+    ensures shorter { IfOk result (λ r. length r.rest.now < length tokens.now) }
+    ensures low { IfOk result (λ r. r.height ≤ depth) }
 {
-    let (list, height, rest) = match stmts(alloc, tokens, depth) {
+    let Read {
+        tree: list,
+        height,
+        rest,
+    } = match stmts(alloc, tokens, depth) {
         Ok(read) => read,
         Err(error) => return Err(error),
     };
     match expect(rest, TokenKind::CloseBrace, within(height, depth)) {
-        Ok((close, after)) => Ok((Braced { stmts: list, close }, height, after)),
+        Ok((close, after)) => Ok(Read {
+            tree: Closed { part: list, close },
+            height,
+            rest: after,
+        }),
         Err(error) => Err(discard_stmts(list, error)),
     }
 }
 
 /// A body: a block, or one statement behind `do`.
 #[cycle(parser)]
-pub fn body<'a>(
-    alloc: Global,
-    tokens: &'a [Token],
-    depth: u8,
-) -> Result<(Vec<Stmt>, u16, &'a [Token]), Stop>
+pub fn body<'a>(alloc: Global, tokens: &'a [Token], depth: u8) -> Result<Read<'a, Vec<Stmt>>, Stop>
     ensures exact { Exact (one g.body) continues_statement depth tokens.now (seen stmt_list result) }
-    ensures shorter { IfOk result (λ r. length r.2.now < length tokens.now) }
-    ensures low { IfOk result (λ r. r.1 ≤ depth + 1) }
+    ensures shorter { IfOk result (λ r. length r.rest.now < length tokens.now) }
+    ensures low { IfOk result (λ r. r.height ≤ depth + 1) }
 {
     if let Some((_open, inner)) = strip(tokens, TokenKind::OpenBrace) {
         return match braces(alloc, inner, depth) {
-            Ok((block, height, rest)) => {
-                let Braced { stmts, close: _ } = block;
-                Ok((stmts, height, rest))
+            Ok(
+                Read {
+                    tree: block,
+                    height,
+                    rest,
+                },
+            ) => {
+                let Closed {
+                    part: stmts,
+                    close: _,
+                } = block;
+                Ok(Read {
+                    tree: stmts,
+                    height,
+                    rest,
+                })
             }
             Err(error) => Err(error),
         };
@@ -113,10 +133,20 @@ pub fn body<'a>(
         None => return Err(Stop::Syntax(tokens.len())),
     };
     match statement(alloc, behind, depth) {
-        Ok((s, height, rest)) => {
+        Ok(
+            Read {
+                tree: s,
+                height,
+                rest,
+            },
+        ) => {
             let none = Vec::new(alloc);
             let list = push_stmt(none, s)?;
-            Ok((list, height, rest))
+            Ok(Read {
+                tree: list,
+                height,
+                rest,
+            })
         }
         Err(error) => Err(error),
     }
@@ -124,23 +154,32 @@ pub fn body<'a>(
 
 /// The block of a procedure.
 #[cycle(parser)]
-pub fn block<'a>(
-    alloc: Global,
-    tokens: &'a [Token],
-    depth: u8,
-) -> Result<(Vec<Stmt>, u16, &'a [Token]), Stop>
+pub fn block<'a>(alloc: Global, tokens: &'a [Token], depth: u8) -> Result<Read<'a, Vec<Stmt>>, Stop>
     ensures exact { Exact (one (g.block_ Free)) nothing_continues depth tokens.now (seen stmt_list result) }
-    ensures shorter { IfOk result (λ r. length r.2.now < length tokens.now) }
-    ensures low { IfOk result (λ r. r.1 ≤ depth + 1) }
+    ensures shorter { IfOk result (λ r. length r.rest.now < length tokens.now) }
+    ensures low { IfOk result (λ r. r.height ≤ depth + 1) }
 {
     let inner = match strip(tokens, TokenKind::OpenBrace) {
         Some((_open, inner)) => inner,
         None => return Err(Stop::Syntax(tokens.len())),
     };
     match braces(alloc, inner, depth) {
-        Ok((block, height, rest)) => {
-            let Braced { stmts, close: _ } = block;
-            Ok((stmts, height, rest))
+        Ok(
+            Read {
+                tree: block,
+                height,
+                rest,
+            },
+        ) => {
+            let Closed {
+                part: stmts,
+                close: _,
+            } = block;
+            Ok(Read {
+                tree: stmts,
+                height,
+                rest,
+            })
         }
         Err(error) => Err(error),
     }

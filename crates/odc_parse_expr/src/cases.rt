@@ -9,6 +9,7 @@ ghost use Rattle.odc_lookahead.specs.SwitchSets.{continues_cases};
 
 use crate::block::stmts;
 use crate::spans::items;
+use odc_lookahead::read::Read;
 use odc_lookahead::stop::Stop;
 use odc_lookahead::tokens::{expect, strip, within};
 use odc_syntax::token::{Token, TokenKind};
@@ -19,14 +20,10 @@ use std::alloc::Global;
 
 /// Cases, up to what begins none.
 #[cycle(parser)]
-pub fn cases<'a>(
-    alloc: Global,
-    tokens: &'a [Token],
-    depth: u8,
-) -> Result<(Vec<Case>, u16, &'a [Token]), Stop>
+pub fn cases<'a>(alloc: Global, tokens: &'a [Token], depth: u8) -> Result<Read<'a, Vec<Case>>, Stop>
     ensures exact { Exact (one g.cases) continues_cases depth tokens.now (seen case_list result) }
-    ensures shorter { IfOk result (λ r. length r.2.now ≤ length tokens.now) }
-    ensures low { IfOk result (λ r. r.1 ≤ depth + 1) }
+    ensures shorter { IfOk result (λ r. length r.rest.now ≤ length tokens.now) }
+    ensures low { IfOk result (λ r. r.height ≤ depth + 1) }
 {
     let mut list = Vec::new(alloc);
     let mut height: u16 = 0;
@@ -35,7 +32,11 @@ pub fn cases<'a>(
         if height > u16::from(depth) {
             return Err(discard_cases(list, Stop::Deep(behind.len())));
         }
-        let (values, n, colon) = match items(alloc, behind, depth) {
+        let Read {
+            tree: values,
+            height: n,
+            rest: colon,
+        } = match items(alloc, behind, depth) {
             Ok(read) => read,
             Err(error) => return Err(discard_cases(list, error)),
         };
@@ -44,7 +45,11 @@ pub fn cases<'a>(
             Ok((_colon, inner)) => inner,
             Err(error) => return Err(discard_values(list, values, error)),
         };
-        let (body, m, after) = match stmts(alloc, inner, depth) {
+        let Read {
+            tree: body,
+            height: m,
+            rest: after,
+        } = match stmts(alloc, inner, depth) {
             Ok(read) => read,
             Err(error) => return Err(discard_values(list, values, error)),
         };
@@ -59,7 +64,11 @@ pub fn cases<'a>(
         height = top.max(m);
         rest = after;
     }
-    Ok((list, height, rest))
+    Ok(Read {
+        tree: list,
+        height,
+        rest,
+    })
 }
 
 /// The reason why cases and the values of a further one are not used.

@@ -18,6 +18,7 @@ use crate::declaration::declaration;
 use crate::run_bounds::run_over;
 use crate::runs::{NamesEnd, names_in};
 use crate::simple::{assignment_of, nothing_fits, simple, simple_from};
+use odc_lookahead::read::Read;
 use odc_lookahead::stop::Stop;
 use odc_lookahead::tokens::{expect, first, same_kind, strip, within};
 use odc_nodes::stmt_nodes;
@@ -40,10 +41,10 @@ pub fn if_statement<'a>(
     alloc: Global,
     tokens: &'a [Token],
     depth: u8,
-) -> Result<(Stmt, u16, &'a [Token]), Stop>
+) -> Result<Read<'a, Stmt>, Stop>
     ensures exact { Exact (one g.if_statement) continues_statement depth tokens.now (seen stmt result) }
-    ensures shorter { IfOk result (λ r. length r.2.now < length tokens.now) }
-    ensures low { IfOk result (λ r. r.1 ≤ depth + 1) }
+    ensures shorter { IfOk result (λ r. length r.rest.now < length tokens.now) }
+    ensures low { IfOk result (λ r. r.height ≤ depth + 1) }
 {
     let (token, behind) = match strip(tokens, TokenKind::If) {
         Some(found) => found,
@@ -52,7 +53,11 @@ pub fn if_statement<'a>(
     if depth == 0 {
         return Err(Stop::Deep(behind.len()));
     }
-    let (head, n, rest) = match before_body(alloc, behind, depth - 1) {
+    let Read {
+        tree: head,
+        height: n,
+        rest,
+    } = match before_body(alloc, behind, depth - 1) {
         Ok(read) => read,
         Err(error) => return Err(error),
     };
@@ -60,15 +65,13 @@ pub fn if_statement<'a>(
         return Err(discard_head(head, body_over(rest)));
     }
     match body(alloc, rest, depth - 1) {
-        Ok((block, m, after)) => otherwise(
-            alloc,
-            token.at,
-            head,
-            block,
-            n.max(m),
-            after,
-            depth - 1,
-        ),
+        Ok(
+            Read {
+                tree: block,
+                height: m,
+                rest: after,
+            },
+        ) => otherwise(alloc, token.at, head, block, n.max(m), after, depth - 1),
         Err(error) => Err(discard_head(head, error)),
     }
 }
@@ -83,22 +86,22 @@ fn otherwise<'a>(
     height: u16,
     tokens: &'a [Token],
     depth: u8,
-) -> Result<(Stmt, u16, &'a [Token]), Stop>
+) -> Result<Read<'a, Stmt>, Stop>
+    requires { height ≤ depth + 1 }
     ensures exact { (ts : List TokenValue) → IfRead depth ts at (head_of head) (stmts block.items) height tokens.now
         → Exact (one g.if_statement) continues_statement (suc depth) ts (seen stmt result) }
-    ensures shorter { IfOk result (λ r. length r.2.now ≤ length tokens.now) }
-    ensures low { height ≤ depth + 1 → IfOk result (λ r. r.1 ≤ depth + 2) }
+    ensures shorter { IfOk result (λ r. length r.rest.now ≤ length tokens.now) }
+    ensures low { IfOk result (λ r. r.height ≤ depth + 2) }
 {
-    // Nothing that is read is deeper, so that the sums below fit.
-    let most = u16::from(depth) + 1;
-    if height > most {
-        return Err(discard_if(head, block, Stop::Memory));
-    }
     let (_else, behind) = match strip(tokens, TokenKind::Else) {
         Some(found) => found,
         None => {
             let s = conditional(alloc, at, head, block, Else::None)?;
-            return Ok((s, height + 1, tokens));
+            return Ok(Read {
+                tree: s,
+                height: height + 1,
+                rest: tokens,
+            });
         }
     };
     if height > u16::from(depth) {
@@ -106,20 +109,32 @@ fn otherwise<'a>(
     }
     if let Some((_if, _after)) = strip(behind, TokenKind::If) {
         return match if_statement(alloc, behind, depth) {
-            Ok((s, n, after)) => Ok((
-                conditional(alloc, at, head, block, Else::If(s))?,
-                height.max(n) + 1,
-                after,
-            )),
+            Ok(
+                Read {
+                    tree: s,
+                    height: n,
+                    rest: after,
+                },
+            ) => Ok(Read {
+                tree: conditional(alloc, at, head, block, Else::If(s))?,
+                height: height.max(n) + 1,
+                rest: after,
+            }),
             Err(error) => Err(discard_if(head, block, error)),
         };
     }
     match body(alloc, behind, depth) {
-        Ok((other, n, after)) => Ok((
-            conditional(alloc, at, head, block, Else::Body(other))?,
-            height.max(n) + 1,
-            after,
-        )),
+        Ok(
+            Read {
+                tree: other,
+                height: n,
+                rest: after,
+            },
+        ) => Ok(Read {
+            tree: conditional(alloc, at, head, block, Else::Body(other))?,
+            height: height.max(n) + 1,
+            rest: after,
+        }),
         Err(error) => Err(discard_if(head, block, error)),
     }
 }
@@ -130,17 +145,23 @@ pub fn before_body<'a>(
     alloc: Global,
     tokens: &'a [Token],
     depth: u8,
-) -> Result<(Head, u16, &'a [Token]), Stop>
+) -> Result<Read<'a, Head>, Stop>
     ensures exact { Exact head_line continues_head depth tokens.now (seen head_of result) }
-    ensures shorter { IfOk result (λ r. length r.2.now < length tokens.now) }
-    ensures low { IfOk result (λ r. r.1 ≤ depth + 1) }
+    ensures shorter { IfOk result (λ r. length r.rest.now < length tokens.now) }
+    ensures low { IfOk result (λ r. r.height ≤ depth + 1) }
 {
     if depth == 0 {
         return Err(nothing_fits(alloc, Mode::Header, tokens));
     }
     match names_in(tokens) {
         NamesEnd::Declared => match declaration(alloc, Mode::Header, tokens, depth) {
-            Ok((d, n, rest)) => closed(alloc, Header::Decl(d), n, rest, depth),
+            Ok(
+                Read {
+                    tree: d,
+                    height: n,
+                    rest,
+                },
+            ) => closed(alloc, Header::Decl(d), n, rest, depth),
             Err(error) => Err(error),
         },
         NamesEnd::Listed => {
@@ -148,12 +169,24 @@ pub fn before_body<'a>(
                 return Err(run_over(alloc, tokens));
             }
             match simple(alloc, Mode::Header, tokens, depth) {
-                Ok((s, n, rest)) => closed(alloc, Header::Simple(s), n, rest, depth),
+                Ok(
+                    Read {
+                        tree: s,
+                        height: n,
+                        rest,
+                    },
+                ) => closed(alloc, Header::Simple(s), n, rest, depth),
                 Err(error) => Err(error),
             }
         }
         NamesEnd::Single => match level(alloc, Level::Or, Mode::Header, tokens, depth) {
-            Ok((e, n, rest)) => behind_expression(alloc, e, n, rest, depth),
+            Ok(
+                Read {
+                    tree: e,
+                    height: n,
+                    rest,
+                },
+            ) => behind_expression(alloc, e, n, rest, depth),
             Err(error) => Err(error),
         },
     }
@@ -167,14 +200,18 @@ fn behind_expression<'a>(
     height: u16,
     tokens: &'a [Token],
     depth: u8,
-) -> Result<(Head, u16, &'a [Token]), Stop>
+) -> Result<Read<'a, Head>, Stop>
     ensures exact { (ts place : List TokenValue) → HeadExpression depth ts place (expr e) height tokens.now → Exact head_line continues_head depth ts (seen head_of result) }
-    ensures shorter { IfOk result (λ r. length r.2.now ≤ length tokens.now) }
-    ensures low { height ≤ depth + 1 → IfOk result (λ r. r.1 ≤ depth + 1) }
+    ensures shorter { IfOk result (λ r. length r.rest.now ≤ length tokens.now) }
+    ensures low { height ≤ depth + 1 → IfOk result (λ r. r.height ≤ depth + 1) }
 {
     let (token, behind) = match clause_end(tokens) {
         Some(found) => found,
-        None => return Ok((bare(e), height, tokens)),
+        None => return Ok(Read {
+            tree: bare(e),
+            height,
+            rest: tokens,
+        }),
     };
     if height >= u16::from(depth) {
         return Err(discard_expr(e, Stop::Deep(behind.len())));
@@ -184,7 +221,13 @@ fn behind_expression<'a>(
         return condition(alloc, header, height + 1, behind, depth);
     }
     match simple_from(alloc, Mode::Header, e, height, tokens, depth - 1) {
-        Ok((s, n, rest)) => closed(alloc, Header::Simple(s), n, rest, depth),
+        Ok(
+            Read {
+                tree: s,
+                height: n,
+                rest,
+            },
+        ) => closed(alloc, Header::Simple(s), n, rest, depth),
         Err(error) => Err(error),
     }
 }
@@ -210,10 +253,10 @@ fn closed<'a>(
     height: u16,
     tokens: &'a [Token],
     depth: u8,
-) -> Result<(Head, u16, &'a [Token]), Stop>
+) -> Result<Read<'a, Head>, Stop>
     ensures exact { (ts : List TokenValue) → ClosedFrom depth ts (header_of header) height tokens.now → Exact head_line continues_head depth ts (seen head_of result) }
-    ensures shorter { IfOk result (λ r. length r.2.now ≤ length tokens.now) }
-    ensures low { IfOk result (λ r. r.1 ≤ depth + 1) }
+    ensures shorter { IfOk result (λ r. length r.rest.now ≤ length tokens.now) }
+    ensures low { IfOk result (λ r. r.height ≤ depth + 1) }
 {
     match expect(tokens, TokenKind::Semicolon, within(height, depth)) {
         Ok((_semicolon, rest)) => condition(alloc, header, height, rest, depth),
@@ -229,20 +272,26 @@ fn condition<'a>(
     height: u16,
     tokens: &'a [Token],
     depth: u8,
-) -> Result<(Head, u16, &'a [Token]), Stop>
+) -> Result<Read<'a, Head>, Stop>
     ensures exact { (ts : List TokenValue) → ConditionFrom depth ts (header_of header) height tokens.now → Exact head_line continues_head depth ts (seen head_of result) }
-    ensures shorter { IfOk result (λ r. length r.2.now < length tokens.now) }
-    ensures low { height ≤ depth → IfOk result (λ r. r.1 ≤ depth + 1) }
+    ensures shorter { IfOk result (λ r. length r.rest.now < length tokens.now) }
+    ensures low { height ≤ depth → IfOk result (λ r. r.height ≤ depth + 1) }
 {
     match level(alloc, Level::Or, Mode::Header, tokens, depth) {
-        Ok((e, n, rest)) => Ok((
-            Head {
+        Ok(
+            Read {
+                tree: e,
+                height: n,
+                rest,
+            },
+        ) => Ok(Read {
+            tree: Head {
                 header,
                 condition: e,
             },
-            height.max(n),
+            height: height.max(n),
             rest,
-        )),
+        }),
         Err(error) => Err(discard_header(header, error)),
     }
 }
@@ -258,6 +307,7 @@ fn bare(e: Expr) -> Head
 }
 
 /// `if`, with its `else` or without.
+#[inline(never)]
 fn conditional(
     alloc: Global,
     at: Place,

@@ -11,6 +11,7 @@ ghost use Rattle.odc_lookahead.specs.StatementSets.{continues_declaration};
 
 use crate::exprs::exprs;
 use crate::types::ty;
+use odc_lookahead::read::Read;
 use odc_lookahead::stop::Stop;
 use odc_lookahead::tokens::{expect, strip};
 use odc_nodes::stmt_nodes;
@@ -28,10 +29,10 @@ pub fn declaration<'a>(
     mode: Mode,
     tokens: &'a [Token],
     depth: u8,
-) -> Result<(Decl, u16, &'a [Token]), Stop>
+) -> Result<Read<'a, Decl>, Stop>
     ensures exact { Exact (one (g.declaration mode)) (continues_declaration mode) depth tokens.now (seen decl result) }
-    ensures shorter { IfOk result (λ r. length r.2.now < length tokens.now) }
-    ensures low { IfOk result (λ r. r.1 ≤ depth + 1) }
+    ensures shorter { IfOk result (λ r. length r.rest.now < length tokens.now) }
+    ensures low { IfOk result (λ r. r.height ≤ depth + 1) }
 {
     let (name, behind) = match strip(tokens, TokenKind::Name) {
         Some(found) => found,
@@ -80,38 +81,56 @@ fn behind_colon<'a>(
     names: Vec<Token>,
     tokens: &'a [Token],
     depth: u8,
-) -> Result<(Decl, u16, &'a [Token]), Stop>
+) -> Result<Read<'a, Decl>, Stop>
     ensures exact { (ts : List TokenValue) → Headed depth ts at names.items tokens.now
         → Exact (one (g.declaration mode)) (continues_declaration mode) (suc depth) ts (seen decl result) }
-    ensures shorter { IfOk result (λ r. length r.2.now ≤ length tokens.now) }
-    ensures low { IfOk result (λ r. r.1 ≤ depth + 2) }
+    ensures shorter { IfOk result (λ r. length r.rest.now ≤ length tokens.now) }
+    ensures low { IfOk result (λ r. r.height ≤ depth + 2) }
 {
     if let Some((_assign, rest)) = strip(tokens, TokenKind::Assign) {
         return match exprs(alloc, mode, rest, depth) {
-            Ok((values, height, after)) => {
-                Ok((
-                    stmt_nodes::inferred(alloc, at, names, values)?,
-                    height + 1,
-                    after,
-                ))
+            Ok(
+                Read {
+                    tree: values,
+                    height,
+                    rest: after,
+                },
+            ) => {
+                Ok(Read {
+                    tree: stmt_nodes::inferred(alloc, at, names, values)?,
+                    height: height + 1,
+                    rest: after,
+                })
             }
             Err(error) => Err(error),
         };
     }
     if let Some((_colon, rest)) = strip(tokens, TokenKind::Colon) {
         return match exprs(alloc, mode, rest, depth) {
-            Ok((values, height, after)) => {
-                Ok((
-                    stmt_nodes::constant(alloc, at, names, values)?,
-                    height + 1,
-                    after,
-                ))
+            Ok(
+                Read {
+                    tree: values,
+                    height,
+                    rest: after,
+                },
+            ) => {
+                Ok(Read {
+                    tree: stmt_nodes::constant(alloc, at, names, values)?,
+                    height: height + 1,
+                    rest: after,
+                })
             }
             Err(error) => Err(error),
         };
     }
     match ty(alloc, Use::Plain, tokens, depth) {
-        Ok((t, height, rest)) => behind_type(alloc, mode, at, names, t, height, rest, depth),
+        Ok(
+            Read {
+                tree: t,
+                height,
+                rest,
+            },
+        ) => behind_type(alloc, mode, at, names, t, height, rest, depth),
         Err(error) => Err(error),
     }
 }
@@ -127,46 +146,62 @@ fn behind_type<'a>(
     height: u16,
     tokens: &'a [Token],
     depth: u8,
-) -> Result<(Decl, u16, &'a [Token]), Stop>
+) -> Result<Read<'a, Decl>, Stop>
+    requires { height ≤ depth + 1 }
     ensures exact { (ts : List TokenValue) → Typed depth ts at names.items (type t) height tokens.now
         → Exact (one (g.declaration mode)) (continues_declaration mode) (suc depth) ts (seen decl result) }
-    ensures shorter { IfOk result (λ r. length r.2.now ≤ length tokens.now) }
-    ensures low { height ≤ depth + 1 → IfOk result (λ r. r.1 ≤ depth + 2) }
+    ensures shorter { IfOk result (λ r. length r.rest.now ≤ length tokens.now) }
+    ensures low { IfOk result (λ r. r.height ≤ depth + 2) }
 {
-    // Nothing that is read is deeper, so that the sums below fit.
-    let most = u16::from(depth) + 1;
-    if height > most {
-        return Err(discard_type(t, Stop::Memory));
-    }
     if let Some((_colon, rest)) = strip(tokens, TokenKind::Colon) {
         if height > u16::from(depth) {
             return Err(discard_type(t, Stop::Deep(rest.len())));
         }
         return match exprs(alloc, mode, rest, depth) {
-            Ok((values, n, after)) => Ok((
-                stmt_nodes::typed_constant(alloc, at, names, t, values)?,
-                height.max(n) + 1,
-                after,
-            )),
+            Ok(
+                Read {
+                    tree: values,
+                    height: n,
+                    rest: after,
+                },
+            ) => Ok(Read {
+                tree: stmt_nodes::typed_constant(alloc, at, names, t, values)?,
+                height: height.max(n) + 1,
+                rest: after,
+            }),
             Err(error) => Err(discard_type(t, error)),
         };
     }
     let rest = match strip(tokens, TokenKind::Assign) {
         Some((_assign, rest)) => rest,
-        None => return Ok((stmt_nodes::zeros(alloc, at, names, t)?, height + 1, tokens)),
+        None => return Ok(Read {
+            tree: stmt_nodes::zeros(alloc, at, names, t)?,
+            height: height + 1,
+            rest: tokens,
+        }),
     };
     if height > u16::from(depth) {
         return Err(discard_type(t, Stop::Deep(rest.len())));
     }
     if let Some((_dashes, after)) = strip(rest, TokenKind::Dashes) {
-        return Ok((stmt_nodes::dashes(alloc, at, names, t)?, height + 1, after));
+        return Ok(Read {
+            tree: stmt_nodes::dashes(alloc, at, names, t)?,
+            height: height + 1,
+            rest: after,
+        });
     }
     match exprs(alloc, mode, rest, depth) {
-        Ok((values, n, after)) => Ok((
-            stmt_nodes::typed(alloc, at, names, t, values)?,
-            height.max(n) + 1,
-            after,
-        )),
+        Ok(
+            Read {
+                tree: values,
+                height: n,
+                rest: after,
+            },
+        ) => Ok(Read {
+            tree: stmt_nodes::typed(alloc, at, names, t, values)?,
+            height: height.max(n) + 1,
+            rest: after,
+        }),
         Err(error) => Err(discard_type(t, error)),
     }
 }

@@ -13,6 +13,7 @@ ghost use Rattle.odc_lookahead.specs.Statements.{expr_list, BeginsWith};
 
 use crate::binary::level;
 use odc_lookahead::operators::later;
+use odc_lookahead::read::Read;
 use odc_lookahead::stop::Stop;
 use odc_lookahead::tokens::strip;
 use odc_nodes::stmt_nodes;
@@ -30,13 +31,19 @@ pub fn exprs<'a>(
     mode: Mode,
     tokens: &'a [Token],
     depth: u8,
-) -> Result<(Vec<Expr>, u16, &'a [Token]), Stop>
+) -> Result<Read<'a, Vec<Expr>>, Stop>
     ensures exact { Exact (one (g.exprs mode)) (continues_exprs mode) depth tokens.now (seen expr_list result) }
-    ensures shorter { IfOk result (λ r. length r.2.now < length tokens.now) }
-    ensures low { IfOk result (λ r. r.1 ≤ depth + 1) }
+    ensures shorter { IfOk result (λ r. length r.rest.now < length tokens.now) }
+    ensures low { IfOk result (λ r. r.height ≤ depth + 1) }
 {
     match level(alloc, Level::Or, mode, tokens, depth) {
-        Ok((first, height, rest)) => exprs_from(alloc, mode, first, height, rest, depth),
+        Ok(
+            Read {
+                tree: first,
+                height,
+                rest,
+            },
+        ) => exprs_from(alloc, mode, first, height, rest, depth),
         Err(error) => Err(error),
     }
 }
@@ -50,12 +57,12 @@ pub fn exprs_from<'a>(
     height: u16,
     tokens: &'a [Token],
     depth: u8,
-) -> Result<(Vec<Expr>, u16, &'a [Token]), Stop>
+) -> Result<Read<'a, Vec<Expr>>, Stop>
     ensures exact { (ts : List TokenValue) → Found (one (g.expression mode)) (continues levels.Or mode) depth ts (expr first) height tokens.now
         → Exact (one (g.exprs mode)) (continues_exprs mode) depth ts (seen expr_list result) }
-    ensures first { IfOk result (λ r. BeginsWith (expr first) r.0.items) }
-    ensures shorter { IfOk result (λ r. length r.2.now ≤ length tokens.now) }
-    ensures low { height ≤ depth + 1 → IfOk result (λ r. r.1 ≤ depth + 1) }
+    ensures first { IfOk result (λ r. BeginsWith (expr first) r.tree.items) }
+    ensures shorter { IfOk result (λ r. length r.rest.now ≤ length tokens.now) }
+    ensures low { height ≤ depth + 1 → IfOk result (λ r. r.height ≤ depth + 1) }
 {
     let start = stmt_nodes::only(alloc, first)?;
     let mut list = start;
@@ -65,7 +72,11 @@ pub fn exprs_from<'a>(
         if top > u16::from(depth) {
             return Err(discard_exprs(list, Stop::Deep(behind.len())));
         }
-        let (e, n, after) = match level(alloc, Level::Or, later(mode), behind, depth) {
+        let Read {
+            tree: e,
+            height: n,
+            rest: after,
+        } = match level(alloc, Level::Or, later(mode), behind, depth) {
             Ok(read) => read,
             Err(error) => return Err(discard_exprs(list, error)),
         };
@@ -73,5 +84,9 @@ pub fn exprs_from<'a>(
         top = top.max(n);
         rest = after;
     }
-    Ok((list, top, rest))
+    Ok(Read {
+        tree: list,
+        height: top,
+        rest,
+    })
 }

@@ -9,13 +9,15 @@ ghost use Rattle.odc_lookahead.specs.Ends.{ExactAs, seen_to, closed_by};
 ghost use Rattle.odc_lookahead.specs.Exact.{Exact, one};
 ghost use Rattle.odc_lookahead.specs.Read.{seen};
 ghost use Rattle.odc_lookahead.specs.Sets.{continues_argument, nothing_continues};
-ghost use Rattle.odc_lookahead.specs.TypeParts.{field_item, enumerator_item, fields_line, types_line, enumerators_line, base_line, field_by, enumerator};
+ghost use Rattle.odc_parse_expr.specs.Fields.{field_read};
+ghost use Rattle.odc_lookahead.specs.TypeParts.{field_item, enumerator_item, fields_line, types_line, enumerators_line, base_line, enumerator};
 
 use crate::binary::level;
 use crate::types::ty;
 use odc_lookahead::end::End;
 use odc_lookahead::lists::after_item;
 use odc_lookahead::name_lists::names;
+use odc_lookahead::read::{Closed, Read, ReadTo};
 use odc_lookahead::stop::Stop;
 use odc_lookahead::tokens::{expect, strip, within};
 use odc_nodes::type_nodes;
@@ -36,22 +38,32 @@ pub fn struct_type<'a>(
     token: Token,
     behind: &'a [Token],
     depth: u8,
-) -> Result<(Type, u16, &'a [Token], End), Stop>
+) -> Result<ReadTo<'a, Type>, Stop>
     ensures exact { token.kind ≡ kind.Struct → ExactAs used (one (g.constructed used)) nothing_continues (suc depth) (token ∷ behind.now) (seen_to type result) }
-    ensures shorter { IfOk result (λ r. length r.2.now ≤ length behind.now) }
-    ensures low { IfOk result (λ r. r.1 ≤ depth + 1) }
+    ensures shorter { IfOk result (λ r. length r.rest.now ≤ length behind.now) }
+    ensures low { IfOk result (λ r. r.height ≤ depth + 1) }
 {
     let (_open, inner) = match expect(behind, TokenKind::OpenBrace, true) {
         Ok(found) => found,
         Err(error) => return Err(error),
     };
     match field_list(alloc, used, inner, depth) {
-        Ok((list, _close, height, rest)) => Ok((
-            type_nodes::structure(alloc, token.at, list)?,
-            height + 1,
-            rest,
-            End::Sure,
-        )),
+        Ok(read) => {
+            let Read {
+                tree: Closed {
+                    part: list,
+                    close: _close,
+                },
+                height,
+                rest,
+            } = read;
+            Ok(ReadTo {
+                tree: type_nodes::structure(alloc, token.at, list)?,
+                height: height + 1,
+                rest,
+                end: End::Sure,
+            })
+        }
         Err(error) => Err(error),
     }
 }
@@ -63,19 +75,30 @@ fn field_list<'a>(
     used: Use,
     tokens: &'a [Token],
     depth: u8,
-) -> Result<(Vec<Field>, Token, u16, &'a [Token]), Stop>
+) -> Result<Read<'a, Closed<Vec<Field>>>, Stop>
     ensures exact { Exact (fields_line (g.inside used)) nothing_continues depth tokens.now (closed_by (λ l. fields l.items) result) }
-    ensures shorter { IfOk result (λ r. length r.3.now < length tokens.now) }
-    ensures low { IfOk result (λ r. r.2 ≤ depth) }
+    ensures shorter { IfOk result (λ r. length r.rest.now < length tokens.now) }
+    ensures low { IfOk result (λ r. r.height ≤ depth) }
 {
     let mut list = Vec::new(alloc);
     if let Some((close, rest)) = strip(tokens, TokenKind::CloseBrace) {
-        return Ok((list, close, 0, rest));
+        return Ok(Read {
+            tree: Closed { part: list, close },
+            height: 0,
+            rest,
+        });
     }
     let mut height: u16 = 0;
     let mut rest = tokens;
     'items: loop {
-        let (item, _colon, n, after) = match field(alloc, used, rest, depth) {
+        let Read {
+            tree: FieldRead {
+                field: item,
+                colon: _colon,
+            },
+            height: n,
+            rest: after,
+        } = match field(alloc, used, rest, depth) {
             Ok(read) => read,
             Err(error) => return Err(discard_fields(list, error)),
         };
@@ -86,10 +109,20 @@ fn field_list<'a>(
             Err(error) => return Err(discard_fields(list, error)),
         };
         match end {
-            Some(close) => return Ok((list, close, height, behind)),
+            Some(close) => return Ok(Read {
+                tree: Closed { part: list, close },
+                height,
+                rest: behind,
+            }),
             None => rest = behind,
         }
     }
+}
+
+/// A field, with the colon behind its names, which its tree does not keep.
+pub struct FieldRead {
+    pub field: Field,
+    pub colon: Token,
 }
 
 /// Names and their type, with the colon between them.
@@ -99,17 +132,30 @@ fn field<'a>(
     used: Use,
     tokens: &'a [Token],
     depth: u8,
-) -> Result<(Field, Token, u16, &'a [Token]), Stop>
-    ensures exact { Exact (field_item (g.inside used)) nothing_continues depth tokens.now (field_by result) }
-    ensures shorter { IfOk result (λ r. length r.3.now < length tokens.now) }
-    ensures low { IfOk result (λ r. r.2 ≤ depth) }
+) -> Result<Read<'a, FieldRead>, Stop>
+    ensures exact { Exact (field_item (g.inside used)) nothing_continues depth tokens.now (seen field_read result) }
+    ensures shorter { IfOk result (λ r. length r.rest.now < length tokens.now) }
+    ensures low { IfOk result (λ r. r.height ≤ depth) }
 {
     let (names, colon, after) = match names(alloc, tokens) {
         Ok(read) => read,
         Err(error) => return Err(error),
     };
     match ty(alloc, used, after, depth) {
-        Ok((t, height, rest)) => Ok((Field { names, ty: t }, colon, height, rest)),
+        Ok(
+            Read {
+                tree: t,
+                height,
+                rest,
+            },
+        ) => Ok(Read {
+            tree: FieldRead {
+                field: Field { names, ty: t },
+                colon,
+            },
+            height,
+            rest,
+        }),
         Err(error) => Err(error),
     }
 }
@@ -122,22 +168,32 @@ pub fn union_type<'a>(
     token: Token,
     behind: &'a [Token],
     depth: u8,
-) -> Result<(Type, u16, &'a [Token], End), Stop>
+) -> Result<ReadTo<'a, Type>, Stop>
     ensures exact { token.kind ≡ kind.Union → ExactAs used (one (g.constructed used)) nothing_continues (suc depth) (token ∷ behind.now) (seen_to type result) }
-    ensures shorter { IfOk result (λ r. length r.2.now ≤ length behind.now) }
-    ensures low { IfOk result (λ r. r.1 ≤ depth + 1) }
+    ensures shorter { IfOk result (λ r. length r.rest.now ≤ length behind.now) }
+    ensures low { IfOk result (λ r. r.height ≤ depth + 1) }
 {
     let (_open, inner) = match expect(behind, TokenKind::OpenBrace, true) {
         Ok(found) => found,
         Err(error) => return Err(error),
     };
     match type_list(alloc, used, inner, depth) {
-        Ok((list, _close, height, rest)) => Ok((
-            type_nodes::union_of(alloc, token.at, list)?,
-            height + 1,
-            rest,
-            End::Sure,
-        )),
+        Ok(read) => {
+            let Read {
+                tree: Closed {
+                    part: list,
+                    close: _close,
+                },
+                height,
+                rest,
+            } = read;
+            Ok(ReadTo {
+                tree: type_nodes::union_of(alloc, token.at, list)?,
+                height: height + 1,
+                rest,
+                end: End::Sure,
+            })
+        }
         Err(error) => Err(error),
     }
 }
@@ -149,19 +205,27 @@ fn type_list<'a>(
     used: Use,
     tokens: &'a [Token],
     depth: u8,
-) -> Result<(Vec<Type>, Token, u16, &'a [Token]), Stop>
+) -> Result<Read<'a, Closed<Vec<Type>>>, Stop>
     ensures exact { Exact (types_line (g.inside used)) nothing_continues depth tokens.now (closed_by (λ l. types l.items) result) }
-    ensures shorter { IfOk result (λ r. length r.3.now < length tokens.now) }
-    ensures low { IfOk result (λ r. r.2 ≤ depth) }
+    ensures shorter { IfOk result (λ r. length r.rest.now < length tokens.now) }
+    ensures low { IfOk result (λ r. r.height ≤ depth) }
 {
     let mut list = Vec::new(alloc);
     if let Some((close, rest)) = strip(tokens, TokenKind::CloseBrace) {
-        return Ok((list, close, 0, rest));
+        return Ok(Read {
+            tree: Closed { part: list, close },
+            height: 0,
+            rest,
+        });
     }
     let mut height: u16 = 0;
     let mut rest = tokens;
     'items: loop {
-        let (item, n, after) = match ty(alloc, used, rest, depth) {
+        let Read {
+            tree: item,
+            height: n,
+            rest: after,
+        } = match ty(alloc, used, rest, depth) {
             Ok(read) => read,
             Err(error) => return Err(discard_types(list, error)),
         };
@@ -172,7 +236,11 @@ fn type_list<'a>(
             Err(error) => return Err(discard_types(list, error)),
         };
         match end {
-            Some(close) => return Ok((list, close, height, behind)),
+            Some(close) => return Ok(Read {
+                tree: Closed { part: list, close },
+                height,
+                rest: behind,
+            }),
             None => rest = behind,
         }
     }
@@ -186,22 +254,39 @@ pub fn enum_type<'a>(
     token: Token,
     behind: &'a [Token],
     depth: u8,
-) -> Result<(Type, u16, &'a [Token], End), Stop>
+) -> Result<ReadTo<'a, Type>, Stop>
     ensures exact { token.kind ≡ kind.Enum → ExactAs used (one (g.constructed used)) nothing_continues (suc depth) (token ∷ behind.now) (seen_to type result) }
-    ensures shorter { IfOk result (λ r. length r.2.now ≤ length behind.now) }
-    ensures low { IfOk result (λ r. r.1 ≤ depth + 1) }
+    ensures shorter { IfOk result (λ r. length r.rest.now ≤ length behind.now) }
+    ensures low { IfOk result (λ r. r.height ≤ depth + 1) }
 {
-    let (base, _open, n, inner) = match base_type(alloc, used, behind, depth) {
+    let Read {
+        tree: Closed {
+            part: base,
+            close: _open,
+        },
+        height: n,
+        rest: inner,
+    } = match base_type(alloc, used, behind, depth) {
         Ok(read) => read,
         Err(error) => return Err(error),
     };
     match enumerator_list(alloc, inner, depth) {
-        Ok((list, _close, m, rest)) => Ok((
-            type_nodes::enumeration(alloc, token.at, base, list)?,
-            n.max(m) + 1,
-            rest,
-            End::Sure,
-        )),
+        Ok(read) => {
+            let Read {
+                tree: Closed {
+                    part: list,
+                    close: _close,
+                },
+                height: m,
+                rest,
+            } = read;
+            Ok(ReadTo {
+                tree: type_nodes::enumeration(alloc, token.at, base, list)?,
+                height: n.max(m) + 1,
+                rest,
+                end: End::Sure,
+            })
+        }
         Err(error) => Err(discard_optional_type(base, error)),
     }
 }
@@ -213,13 +298,20 @@ fn base_type<'a>(
     used: Use,
     tokens: &'a [Token],
     depth: u8,
-) -> Result<(Option<Type>, Token, u16, &'a [Token]), Stop>
+) -> Result<Read<'a, Closed<Option<Type>>>, Stop>
     ensures exact { Exact (base_line (g.inside used)) nothing_continues depth tokens.now (closed_by maybe_type result) }
-    ensures shorter { IfOk result (λ r. length r.3.now < length tokens.now) }
-    ensures low { IfOk result (λ r. r.2 ≤ depth) }
+    ensures shorter { IfOk result (λ r. length r.rest.now < length tokens.now) }
+    ensures low { IfOk result (λ r. r.height ≤ depth) }
 {
     match strip(tokens, TokenKind::OpenBrace) {
-        Some((open, inner)) => Ok((None, open, 0, inner)),
+        Some((open, inner)) => Ok(Read {
+            tree: Closed {
+                part: None,
+                close: open,
+            },
+            height: 0,
+            rest: inner,
+        }),
         None => base(alloc, used, tokens, depth),
     }
 }
@@ -231,17 +323,28 @@ fn base<'a>(
     used: Use,
     tokens: &'a [Token],
     depth: u8,
-) -> Result<(Option<Type>, Token, u16, &'a [Token]), Stop>
+) -> Result<Read<'a, Closed<Option<Type>>>, Stop>
     ensures exact { StartsWithout kind.OpenBrace tokens.now → Exact (base_line (g.inside used)) nothing_continues depth tokens.now (closed_by maybe_type result) }
-    ensures shorter { IfOk result (λ r. length r.3.now < length tokens.now) }
-    ensures low { IfOk result (λ r. r.2 ≤ depth) }
+    ensures shorter { IfOk result (λ r. length r.rest.now < length tokens.now) }
+    ensures low { IfOk result (λ r. r.height ≤ depth) }
 {
-    let (t, height, after) = match ty(alloc, used, tokens, depth) {
+    let Read {
+        tree: t,
+        height,
+        rest: after,
+    } = match ty(alloc, used, tokens, depth) {
         Ok(read) => read,
         Err(error) => return Err(error),
     };
     match expect(after, TokenKind::OpenBrace, within(height, depth)) {
-        Ok((open, inner)) => Ok((Some(t), open, height, inner)),
+        Ok((open, inner)) => Ok(Read {
+            tree: Closed {
+                part: Some(t),
+                close: open,
+            },
+            height,
+            rest: inner,
+        }),
         Err(error) => Err(discard_type(t, error)),
     }
 }
@@ -252,19 +355,27 @@ fn enumerator_list<'a>(
     alloc: Global,
     tokens: &'a [Token],
     depth: u8,
-) -> Result<(Vec<Enumerator>, Token, u16, &'a [Token]), Stop>
+) -> Result<Read<'a, Closed<Vec<Enumerator>>>, Stop>
     ensures exact { Exact enumerators_line nothing_continues depth tokens.now (closed_by (λ l. enumerators l.items) result) }
-    ensures shorter { IfOk result (λ r. length r.3.now < length tokens.now) }
-    ensures low { IfOk result (λ r. r.2 ≤ depth) }
+    ensures shorter { IfOk result (λ r. length r.rest.now < length tokens.now) }
+    ensures low { IfOk result (λ r. r.height ≤ depth) }
 {
     let mut list = Vec::new(alloc);
     if let Some((close, rest)) = strip(tokens, TokenKind::CloseBrace) {
-        return Ok((list, close, 0, rest));
+        return Ok(Read {
+            tree: Closed { part: list, close },
+            height: 0,
+            rest,
+        });
     }
     let mut height: u16 = 0;
     let mut rest = tokens;
     'items: loop {
-        let (item, n, after) = match enumerator(alloc, rest, depth) {
+        let Read {
+            tree: item,
+            height: n,
+            rest: after,
+        } = match enumerator(alloc, rest, depth) {
             Ok(read) => read,
             Err(error) => return Err(discard_enumerators(list, error)),
         };
@@ -275,7 +386,11 @@ fn enumerator_list<'a>(
             Err(error) => return Err(discard_enumerators(list, error)),
         };
         match end {
-            Some(close) => return Ok((list, close, height, behind)),
+            Some(close) => return Ok(Read {
+                tree: Closed { part: list, close },
+                height,
+                rest: behind,
+            }),
             None => rest = behind,
         }
     }
@@ -287,17 +402,27 @@ fn enumerator<'a>(
     alloc: Global,
     tokens: &'a [Token],
     depth: u8,
-) -> Result<(Enumerator, u16, &'a [Token]), Stop>
+) -> Result<Read<'a, Enumerator>, Stop>
     ensures exact { Exact enumerator_item continues_argument depth tokens.now (seen enumerator result) }
-    ensures shorter { IfOk result (λ r. length r.2.now < length tokens.now) }
-    ensures low { IfOk result (λ r. r.1 ≤ depth + 1) }
+    ensures shorter { IfOk result (λ r. length r.rest.now < length tokens.now) }
+    ensures low { IfOk result (λ r. r.height ≤ depth + 1) }
 {
     let (name, behind) = match expect(tokens, TokenKind::Name, true) {
         Ok(found) => found,
         Err(error) => return Err(error),
     };
     match given(alloc, behind, depth) {
-        Ok((value, height, rest)) => Ok((Enumerator { name, value }, height, rest)),
+        Ok(
+            Read {
+                tree: value,
+                height,
+                rest,
+            },
+        ) => Ok(Read {
+            tree: Enumerator { name, value },
+            height,
+            rest,
+        }),
         Err(error) => Err(error),
     }
 }
@@ -308,16 +433,30 @@ pub fn given<'a>(
     alloc: Global,
     tokens: &'a [Token],
     depth: u8,
-) -> Result<(Option<Expr>, u16, &'a [Token]), Stop>
+) -> Result<Read<'a, Option<Expr>>, Stop>
     ensures exact { Exact (one g.given) continues_argument depth tokens.now (seen maybe_expr result) }
-    ensures shorter { IfOk result (λ r. length r.2.now ≤ length tokens.now) }
-    ensures low { IfOk result (λ r. r.1 ≤ depth + 1) }
+    ensures shorter { IfOk result (λ r. length r.rest.now ≤ length tokens.now) }
+    ensures low { IfOk result (λ r. r.height ≤ depth + 1) }
 {
     match strip(tokens, TokenKind::Assign) {
         Some((_assign, behind)) => match level(alloc, Level::Or, Mode::Free, behind, depth) {
-            Ok((e, height, rest)) => Ok((Some(e), height, rest)),
+            Ok(
+                Read {
+                    tree: e,
+                    height,
+                    rest,
+                },
+            ) => Ok(Read {
+                tree: Some(e),
+                height,
+                rest,
+            }),
             Err(error) => Err(error),
         },
-        None => Ok((None, 0, tokens)),
+        None => Ok(Read {
+            tree: None,
+            height: 0,
+            rest: tokens,
+        }),
     }
 }

@@ -26,6 +26,7 @@ use crate::runs::{NamesEnd, names_in};
 use crate::simple::{nothing_fits, simple, simple_from};
 use crate::spans::span;
 use crate::unary::unary;
+use odc_lookahead::read::Read;
 use odc_lookahead::stop::Stop;
 use odc_lookahead::tokens::{expect, first, same_kind, strip, within};
 use odc_nodes::{loop_nodes, stmt_nodes};
@@ -86,14 +87,24 @@ pub fn loop_statement<'a>(
     token: Token,
     behind: &'a [Token],
     depth: u8,
-) -> Result<(Stmt, u16, &'a [Token]), Stop>
-    ensures read { token.kind ≡ kind.For → IfOk result (λ r. LabelledRead label depth (token ∷ behind.now) (stmt r.0) r.1 r.2.now) }
+) -> Result<Read<'a, Stmt>, Stop>
+    ensures read { token.kind ≡ kind.For → IfOk result (λ r. LabelledRead label depth (token ∷ behind.now) (stmt r.tree) r.height r.rest.now) }
     ensures refused { token.kind ≡ kind.For → IfErr result (λ e. Exact (one labelled_part) continues_statement depth (token ∷ behind.now) (refused e)) }
-    ensures shorter { IfOk result (λ r. length r.2.now ≤ length behind.now) }
-    ensures low { IfOk result (λ r. r.1 ≤ depth + 1) }
+    ensures shorter { IfOk result (λ r. length r.rest.now ≤ length behind.now) }
+    ensures low { IfOk result (λ r. r.height ≤ depth + 1) }
 {
     match looped(alloc, token, behind, depth) {
-        Ok((read, height, rest)) => Ok((built(alloc, label, token.at, read)?, height, rest)),
+        Ok(
+            Read {
+                tree: read,
+                height,
+                rest,
+            },
+        ) => Ok(Read {
+            tree: built(alloc, label, token.at, read)?,
+            height,
+            rest,
+        }),
         Err(error) => Err(error),
     }
 }
@@ -105,20 +116,40 @@ fn looped<'a>(
     token: Token,
     tokens: &'a [Token],
     depth: u8,
-) -> Result<(Loop, u16, &'a [Token]), Stop>
+) -> Result<Read<'a, Loop>, Stop>
     ensures exact { token.kind ≡ kind.For → Exact (one labelled_part) continues_statement depth (token ∷ tokens.now) (seen (loop_of token.at) result) }
-    ensures shorter { IfOk result (λ r. length r.2.now ≤ length tokens.now) }
-    ensures low { IfOk result (λ r. r.1 ≤ depth + 1) }
+    ensures shorter { IfOk result (λ r. length r.rest.now ≤ length tokens.now) }
+    ensures low { IfOk result (λ r. r.height ≤ depth + 1) }
 {
     if begins_body(tokens) {
         return match body(alloc, tokens, depth) {
-            Ok((block, height, rest)) => Ok((Loop::Ever(block), height, rest)),
+            Ok(
+                Read {
+                    tree: block,
+                    height,
+                    rest,
+                },
+            ) => Ok(Read {
+                tree: Loop::Ever(block),
+                height,
+                rest,
+            }),
             Err(error) => Err(error),
         };
     }
     match strip(tokens, TokenKind::Semicolon) {
         Some((_semicolon, behind)) => match steps(alloc, behind, depth) {
-            Ok((read, height, rest)) => Ok((Loop::Steps(Header::None, read), height, rest)),
+            Ok(
+                Read {
+                    tree: read,
+                    height,
+                    rest,
+                },
+            ) => Ok(Read {
+                tree: Loop::Steps(Header::None, read),
+                height,
+                rest,
+            }),
             Err(error) => Err(error),
         },
         None => clauses(alloc, token, tokens, depth),
@@ -145,11 +176,11 @@ fn clauses<'a>(
     token: Token,
     tokens: &'a [Token],
     depth: u8,
-) -> Result<(Loop, u16, &'a [Token]), Stop>
+) -> Result<Read<'a, Loop>, Stop>
     ensures exact { token.kind ≡ kind.For → StartsWithout kind.OpenBrace tokens.now → StartsWithout kind.Do tokens.now → StartsWithout kind.Semicolon tokens.now
         → Exact (one labelled_part) continues_statement depth (token ∷ tokens.now) (seen (loop_of token.at) result) }
-    ensures shorter { IfOk result (λ r. length r.2.now ≤ length tokens.now) }
-    ensures low { IfOk result (λ r. r.1 ≤ depth + 1) }
+    ensures shorter { IfOk result (λ r. length r.rest.now ≤ length tokens.now) }
+    ensures low { IfOk result (λ r. r.height ≤ depth + 1) }
 {
     let (found, rest) = front_of(tokens);
     match found {
@@ -338,7 +369,7 @@ fn no_operand(alloc: Global, tokens: &[Token]) -> Stop
     ensures { Exact (one (g.unary modes.Header)) (starts_suffix modes.Header) 0 tokens.now (refused result) }
 {
     match unary(alloc, Mode::Header, tokens, 0) {
-        Ok((e, _height, _rest)) => discard_expr(e, Stop::Memory),
+        Ok(_read) => unreachable!(),
         Err(error) => error,
     }
 }
@@ -351,12 +382,16 @@ fn over<'a>(
     names: RangeNames,
     tokens: &'a [Token],
     depth: u8,
-) -> Result<(Loop, u16, &'a [Token]), Stop>
+) -> Result<Read<'a, Loop>, Stop>
     ensures exact { (ts : List TokenValue) → token.kind ≡ kind.For → Ranged ts names tokens.now → Exact (one labelled_part) continues_statement depth (token ∷ ts) (seen (loop_of token.at) result) }
-    ensures shorter { IfOk result (λ r. length r.2.now ≤ length tokens.now) }
-    ensures low { IfOk result (λ r. r.1 ≤ depth + 1) }
+    ensures shorter { IfOk result (λ r. length r.rest.now ≤ length tokens.now) }
+    ensures low { IfOk result (λ r. r.height ≤ depth + 1) }
 {
-    let (value, n, rest) = match span(alloc, Mode::Header, tokens, depth) {
+    let Read {
+        tree: value,
+        height: n,
+        rest,
+    } = match span(alloc, Mode::Header, tokens, depth) {
         Ok(read) => read,
         Err(error) => return Err(error),
     };
@@ -364,7 +399,17 @@ fn over<'a>(
         return Err(discard_span(value, body_over(rest)));
     }
     match body(alloc, rest, depth) {
-        Ok((block, m, after)) => Ok((Loop::Range(names, value, block), n.max(m), after)),
+        Ok(
+            Read {
+                tree: block,
+                height: m,
+                rest: after,
+            },
+        ) => Ok(Read {
+            tree: Loop::Range(names, value, block),
+            height: n.max(m),
+            rest: after,
+        }),
         Err(error) => Err(discard_span(value, error)),
     }
 }
@@ -376,15 +421,21 @@ fn clause<'a>(
     token: Token,
     tokens: &'a [Token],
     depth: u8,
-) -> Result<(Loop, u16, &'a [Token]), Stop>
+) -> Result<Read<'a, Loop>, Stop>
     ensures exact { (place : List TokenValue) → (s : LoopStart token tokens.now place) → asks s.unranged ≤ depth → asks s.unranged ≤ 2
         → Exact (one labelled_part) continues_statement depth (token ∷ tokens.now) (seen (loop_of token.at) result) }
-    ensures shorter { IfOk result (λ r. length r.2.now ≤ length tokens.now) }
-    ensures low { IfOk result (λ r. r.1 ≤ depth + 1) }
+    ensures shorter { IfOk result (λ r. length r.rest.now ≤ length tokens.now) }
+    ensures low { IfOk result (λ r. r.height ≤ depth + 1) }
 {
     match names_in(tokens) {
         NamesEnd::Declared => match declaration(alloc, Mode::Header, tokens, depth) {
-            Ok((d, n, rest)) => {
+            Ok(
+                Read {
+                    tree: d,
+                    height: n,
+                    rest,
+                },
+            ) => {
                 let header = Header::Decl(d);
                 closed(alloc, token, header, n, rest, depth)
             }
@@ -395,7 +446,13 @@ fn clause<'a>(
                 return Err(run_over(alloc, tokens));
             }
             match simple(alloc, Mode::Header, tokens, depth) {
-                Ok((s, n, rest)) => {
+                Ok(
+                    Read {
+                        tree: s,
+                        height: n,
+                        rest,
+                    },
+                ) => {
                     let header = Header::Simple(s);
                     closed(alloc, token, header, n, rest, depth)
                 }
@@ -403,7 +460,13 @@ fn clause<'a>(
             }
         }
         NamesEnd::Single => match level(alloc, Level::Or, Mode::Header, tokens, depth) {
-            Ok((e, n, rest)) => behind_expression(alloc, token, e, n, rest, depth),
+            Ok(
+                Read {
+                    tree: e,
+                    height: n,
+                    rest,
+                },
+            ) => behind_expression(alloc, token, e, n, rest, depth),
             Err(error) => Err(error),
         },
     }
@@ -416,14 +479,20 @@ fn list<'a>(
     token: Token,
     tokens: &'a [Token],
     depth: u8,
-) -> Result<(Loop, u16, &'a [Token]), Stop>
+) -> Result<Read<'a, Loop>, Stop>
     ensures exact { (place last : List TokenValue) → LoopStart token tokens.now place → MoreNames true tokens.now last → 2 < depth
         → Exact (one labelled_part) continues_statement depth (token ∷ tokens.now) (seen (loop_of token.at) result) }
-    ensures shorter { IfOk result (λ r. length r.2.now ≤ length tokens.now) }
-    ensures low { IfOk result (λ r. r.1 ≤ depth + 1) }
+    ensures shorter { IfOk result (λ r. length r.rest.now ≤ length tokens.now) }
+    ensures low { IfOk result (λ r. r.height ≤ depth + 1) }
 {
     match simple(alloc, Mode::Header, tokens, depth) {
-        Ok((s, n, rest)) => {
+        Ok(
+            Read {
+                tree: s,
+                height: n,
+                rest,
+            },
+        ) => {
             let header = Header::Simple(s);
             closed(alloc, token, header, n, rest, depth)
         }
@@ -440,11 +509,11 @@ fn behind_expression<'a>(
     height: u16,
     tokens: &'a [Token],
     depth: u8,
-) -> Result<(Loop, u16, &'a [Token]), Stop>
+) -> Result<Read<'a, Loop>, Stop>
     ensures exact { (ts place p : List TokenValue) → (s : LoopStart token ts place) → asks s.unranged ≤ depth → asks s.unranged ≤ 2 → HeadExpression depth ts p (expr e) height tokens.now
         → Exact (one labelled_part) continues_statement depth (token ∷ ts) (seen (loop_of token.at) result) }
-    ensures shorter { IfOk result (λ r. length r.2.now ≤ length tokens.now) }
-    ensures low { height ≤ depth + 1 → IfOk result (λ r. r.1 ≤ depth + 1) }
+    ensures shorter { IfOk result (λ r. length r.rest.now ≤ length tokens.now) }
+    ensures low { height ≤ depth + 1 → IfOk result (λ r. r.height ≤ depth + 1) }
 {
     let (next, behind) = match clause_end(tokens) {
         Some(found) => found,
@@ -458,7 +527,13 @@ fn behind_expression<'a>(
         return stepped(alloc, token, header, height + 1, behind, depth);
     }
     match simple_from(alloc, Mode::Header, e, height, tokens, depth - 1) {
-        Ok((s, n, rest)) => {
+        Ok(
+            Read {
+                tree: s,
+                height: n,
+                rest,
+            },
+        ) => {
             let header = Header::Simple(s);
             closed(alloc, token, header, n, rest, depth)
         }
@@ -475,17 +550,27 @@ fn with_condition<'a>(
     height: u16,
     tokens: &'a [Token],
     depth: u8,
-) -> Result<(Loop, u16, &'a [Token]), Stop>
+) -> Result<Read<'a, Loop>, Stop>
     ensures exact { (ts place p : List TokenValue) → (s : LoopStart token ts place) → asks s.unranged ≤ depth → asks s.unranged ≤ 2 → HeadExpression depth ts p (expr e) height tokens.now → EndsClause tokens.now
         → Exact (one labelled_part) continues_statement depth (token ∷ ts) (seen (loop_of token.at) result) }
-    ensures shorter { IfOk result (λ r. length r.2.now ≤ length tokens.now) }
-    ensures low { height ≤ depth + 1 → IfOk result (λ r. r.1 ≤ depth + 1) }
+    ensures shorter { IfOk result (λ r. length r.rest.now ≤ length tokens.now) }
+    ensures low { height ≤ depth + 1 → IfOk result (λ r. r.height ≤ depth + 1) }
 {
     if height > u16::from(depth) {
         return Err(discard_expr(e, body_over(tokens)));
     }
     match body(alloc, tokens, depth) {
-        Ok((block, n, rest)) => Ok((Loop::While(e, block), height.max(n), rest)),
+        Ok(
+            Read {
+                tree: block,
+                height: n,
+                rest,
+            },
+        ) => Ok(Read {
+            tree: Loop::While(e, block),
+            height: height.max(n),
+            rest,
+        }),
         Err(error) => Err(discard_expr(e, error)),
     }
 }
@@ -499,11 +584,11 @@ fn closed<'a>(
     height: u16,
     tokens: &'a [Token],
     depth: u8,
-) -> Result<(Loop, u16, &'a [Token]), Stop>
+) -> Result<Read<'a, Loop>, Stop>
     ensures exact { (ts place : List TokenValue) → (s : LoopStart token ts place) → LoopClosed depth ts place s.unranged (header_of header) height tokens.now
         → Exact (one labelled_part) continues_statement depth (token ∷ ts) (seen (loop_of token.at) result) }
-    ensures shorter { IfOk result (λ r. length r.2.now ≤ length tokens.now) }
-    ensures low { IfOk result (λ r. r.1 ≤ depth + 1) }
+    ensures shorter { IfOk result (λ r. length r.rest.now ≤ length tokens.now) }
+    ensures low { IfOk result (λ r. r.height ≤ depth + 1) }
 {
     match expect(tokens, TokenKind::Semicolon, within(height, depth)) {
         Ok((_semicolon, rest)) => stepped(alloc, token, header, height, rest, depth),
@@ -520,31 +605,43 @@ fn stepped<'a>(
     height: u16,
     tokens: &'a [Token],
     depth: u8,
-) -> Result<(Loop, u16, &'a [Token]), Stop>
+) -> Result<Read<'a, Loop>, Stop>
     ensures exact { (ts place : List TokenValue) → (s : LoopStart token ts place) → LoopCondition depth ts place s.unranged (header_of header) height tokens.now
         → Exact (one labelled_part) continues_statement depth (token ∷ ts) (seen (loop_of token.at) result) }
-    ensures shorter { IfOk result (λ r. length r.2.now ≤ length tokens.now) }
-    ensures low { height ≤ depth → IfOk result (λ r. r.1 ≤ depth + 1) }
+    ensures shorter { IfOk result (λ r. length r.rest.now ≤ length tokens.now) }
+    ensures low { height ≤ depth → IfOk result (λ r. r.height ≤ depth + 1) }
 {
     match steps(alloc, tokens, depth) {
-        Ok((read, n, rest)) => Ok((Loop::Steps(header, read), height.max(n), rest)),
+        Ok(
+            Read {
+                tree: read,
+                height: n,
+                rest,
+            },
+        ) => Ok(Read {
+            tree: Loop::Steps(header, read),
+            height: height.max(n),
+            rest,
+        }),
         Err(error) => Err(discard_header(header, error)),
     }
 }
 
 /// The condition if there is one, its `;`, what is done behind the body if anything is, and the body.
 #[cycle(parser)]
-fn steps<'a>(
-    alloc: Global,
-    tokens: &'a [Token],
-    depth: u8,
-) -> Result<(LoopSteps, u16, &'a [Token]), Stop>
+fn steps<'a>(alloc: Global, tokens: &'a [Token], depth: u8) -> Result<Read<'a, LoopSteps>, Stop>
     ensures exact { Exact steps_line continues_statement depth tokens.now (seen steps_of result) }
-    ensures shorter { IfOk result (λ r. length r.2.now ≤ length tokens.now) }
-    ensures low { IfOk result (λ r. r.1 ≤ depth + 1) }
+    ensures shorter { IfOk result (λ r. length r.rest.now ≤ length tokens.now) }
+    ensures low { IfOk result (λ r. r.height ≤ depth + 1) }
 {
     match level(alloc, Level::Or, Mode::Header, tokens, depth) {
-        Ok((e, height, rest)) => behind_condition(alloc, Some(e), height, rest, depth),
+        Ok(
+            Read {
+                tree: e,
+                height,
+                rest,
+            },
+        ) => behind_condition(alloc, Some(e), height, rest, depth),
         Err(error) => {
             if stands_at(error, tokens.len()) {
                 behind_condition(alloc, None, 0, tokens, depth)
@@ -563,20 +660,30 @@ fn behind_condition<'a>(
     height: u16,
     tokens: &'a [Token],
     depth: u8,
-) -> Result<(LoopSteps, u16, &'a [Token]), Stop>
+) -> Result<Read<'a, LoopSteps>, Stop>
     ensures exact { (ts : List TokenValue) → ConditionRead depth ts (maybe_expr condition) height tokens.now → Exact steps_line continues_statement depth ts (seen steps_of result) }
-    ensures shorter { IfOk result (λ r. length r.2.now ≤ length tokens.now) }
-    ensures low { IfOk result (λ r. r.1 ≤ depth + 1) }
+    ensures shorter { IfOk result (λ r. length r.rest.now ≤ length tokens.now) }
+    ensures low { IfOk result (λ r. r.height ≤ depth + 1) }
 {
     match expect(tokens, TokenKind::Semicolon, within(height, depth)) {
         Ok((semicolon, behind)) => match ending(alloc, behind, depth) {
-            Ok((end, n, rest)) => {
+            Ok(
+                Read {
+                    tree: end,
+                    height: n,
+                    rest,
+                },
+            ) => {
                 let read = LoopSteps {
                     condition,
                     semicolon,
                     end,
                 };
-                Ok((read, height.max(n), rest))
+                Ok(Read {
+                    tree: read,
+                    height: height.max(n),
+                    rest,
+                })
             }
             Err(error) => Err(discard_optional_expr(condition, error)),
         },
@@ -586,26 +693,38 @@ fn behind_condition<'a>(
 
 /// What is done behind the body of a loop if anything is, and the body.
 #[cycle(parser)]
-fn ending<'a>(
-    alloc: Global,
-    tokens: &'a [Token],
-    depth: u8,
-) -> Result<(LoopEnd, u16, &'a [Token]), Stop>
+fn ending<'a>(alloc: Global, tokens: &'a [Token], depth: u8) -> Result<Read<'a, LoopEnd>, Stop>
     ensures exact { Exact after_line continues_statement depth tokens.now (seen end_of result) }
-    ensures shorter { IfOk result (λ r. length r.2.now ≤ length tokens.now) }
-    ensures low { IfOk result (λ r. r.1 ≤ depth + 1) }
+    ensures shorter { IfOk result (λ r. length r.rest.now ≤ length tokens.now) }
+    ensures low { IfOk result (λ r. r.height ≤ depth + 1) }
 {
     match simple(alloc, Mode::Header, tokens, depth) {
-        Ok((s, height, rest)) => behind_step(alloc, s, height, rest, depth),
+        Ok(
+            Read {
+                tree: s,
+                height,
+                rest,
+            },
+        ) => behind_step(alloc, s, height, rest, depth),
         Err(error) => {
             if stands_at(error, tokens.len()) {
                 return match body(alloc, tokens, depth) {
-                    Ok((block, n, after)) => {
+                    Ok(
+                        Read {
+                            tree: block,
+                            height: n,
+                            rest: after,
+                        },
+                    ) => {
                         let end = LoopEnd {
                             step: None,
                             body: block,
                         };
-                        Ok((end, n, after))
+                        Ok(Read {
+                            tree: end,
+                            height: n,
+                            rest: after,
+                        })
                     }
                     Err(stop) => Err(stop),
                 };
@@ -623,28 +742,39 @@ fn behind_step<'a>(
     height: u16,
     tokens: &'a [Token],
     depth: u8,
-) -> Result<(LoopEnd, u16, &'a [Token]), Stop>
+) -> Result<Read<'a, LoopEnd>, Stop>
     ensures exact { (ts : List TokenValue) → Found (one (g.simple modes.Header)) (continues_simple modes.Header) depth ts (stmt s) height tokens.now → length tokens.now < length ts
         → Exact after_line continues_statement depth ts (seen end_of result) }
-    ensures shorter { IfOk result (λ r. length r.2.now ≤ length tokens.now) }
-    ensures low { height ≤ depth + 1 → IfOk result (λ r. r.1 ≤ depth + 1) }
+    ensures shorter { IfOk result (λ r. length r.rest.now ≤ length tokens.now) }
+    ensures low { height ≤ depth + 1 → IfOk result (λ r. r.height ≤ depth + 1) }
 {
     if height > u16::from(depth) {
         return Err(discard_stmt(s, body_over(tokens)));
     }
     match body(alloc, tokens, depth) {
-        Ok((block, n, after)) => {
+        Ok(
+            Read {
+                tree: block,
+                height: n,
+                rest: after,
+            },
+        ) => {
             let end = LoopEnd {
                 step: Some(s),
                 body: block,
             };
-            Ok((end, height.max(n), after))
+            Ok(Read {
+                tree: end,
+                height: height.max(n),
+                rest: after,
+            })
         }
         Err(error) => Err(discard_stmt(s, error)),
     }
 }
 
 /// The statement that was read.
+#[inline(never)]
 fn built(alloc: Global, label: Option<Token>, at: Place, read: Loop) -> Result<Stmt, AllocError>
     ensures { IfOk result (λ s. stmt s ≡ labelled_node label (loop_of at read)) }
 {

@@ -9,12 +9,13 @@ ghost use Rattle.odc_lookahead.specs.Forms.{operand_form, leaf_of, leaf_view};
 ghost use Rattle.odc_lookahead.specs.Sets.{nothing_continues};
 ghost use Rattle.odc_lookahead.specs.declared.operand.OperandForm.TheVariants as forms;
 
-use crate::arguments::{ArgumentList, arguments};
+use crate::arguments::arguments;
 use crate::binary::level;
 use crate::procedure::procedure;
 use crate::types::constructed;
 use odc_lookahead::end::End;
 use odc_lookahead::operand::{OperandForm, operand_form};
+use odc_lookahead::read::{Closed, Read, ReadTo};
 use odc_lookahead::stop::Stop;
 use odc_lookahead::tokens::{expect, first, within};
 use odc_nodes::nodes;
@@ -31,10 +32,11 @@ pub fn operand<'a>(
     mode: Mode,
     tokens: &'a [Token],
     depth: u8,
-) -> Result<(Expr, u16, &'a [Token], End), Stop>
+) -> Result<ReadTo<'a, Expr>, Stop>
     ensures exact { ExactTo (one (g.operand mode)) nothing_continues depth tokens.now (seen_to expr result) }
-    ensures shorter { IfOk result (λ r. length r.2.now < length tokens.now) }
-    ensures low { IfOk result (λ r. r.1 ≤ depth + 1) }
+    ensures shorter { IfOk result (λ r. length r.rest.now < length tokens.now) }
+    ensures low { IfOk result (λ r. r.height ≤ depth + 1) }
+    ensures fits { IfOk result (λ r. 0 < depth) }
 {
     let (token, behind) = match first(tokens) {
         Some(found) => found,
@@ -48,7 +50,12 @@ pub fn operand<'a>(
         return Err(Stop::Deep(behind.len()));
     }
     match leaf_kind(form, token) {
-        Some(kind) => Ok((nodes::leaf(alloc, token.at, kind)?, 1, behind, End::Sure)),
+        Some(kind) => Ok(ReadTo {
+            tree: nodes::leaf(alloc, token.at, kind)?,
+            height: 1,
+            rest: behind,
+            end: End::Sure,
+        }),
         None => compound(alloc, mode, form, tokens, token, behind, depth - 1),
     }
 }
@@ -98,38 +105,59 @@ fn compound<'a>(
     token: Token,
     behind: &'a [Token],
     depth: u8,
-) -> Result<(Expr, u16, &'a [Token], End), Stop>
+) -> Result<ReadTo<'a, Expr>, Stop>
     ensures exact { tokens.now ≡ token ∷ behind.now → operand_form mode token ≡ form → leaf_of form token ≡ None → (form ≡ forms.Nothing → ⊥)
         → ExactTo (one (g.operand mode)) nothing_continues (suc depth) (token ∷ behind.now) (seen_to expr result) }
-    ensures shorter { tokens.now ≡ token ∷ behind.now → IfOk result (λ r. length r.2.now ≤ length behind.now) }
-    ensures low { IfOk result (λ r. r.1 ≤ depth + 2) }
+    ensures shorter { tokens.now ≡ token ∷ behind.now → IfOk result (λ r. length r.rest.now ≤ length behind.now) }
+    ensures low { IfOk result (λ r. r.height ≤ depth + 2) }
 {
     match form {
         OperandForm::Dot => match expect(behind, TokenKind::Name, true) {
-            Ok((name, rest)) => Ok((
-                nodes::leaf(alloc, token.at, ExprKind::Dot(name))?,
-                1,
+            Ok((name, rest)) => Ok(ReadTo {
+                tree: nodes::leaf(alloc, token.at, ExprKind::Dot(name))?,
+                height: 1,
                 rest,
-                End::Sure,
-            )),
+                end: End::Sure,
+            }),
             Err(error) => Err(error),
         },
         OperandForm::Group => group(alloc, mode, token, behind, depth),
         OperandForm::Literal => match arguments(alloc, TokenKind::CloseBrace, behind, depth) {
-            Ok((list, height, rest)) => {
-                let ArgumentList { args, close: _ } = list;
-                Ok((
-                    nodes::literal(alloc, token.at, args)?,
-                    height + 1,
+            Ok(
+                Read {
+                    tree: list,
+                    height,
                     rest,
-                    End::Sure,
-                ))
+                },
+            ) => {
+                let Closed {
+                    part: args,
+                    close: _,
+                } = list;
+                Ok(ReadTo {
+                    tree: nodes::literal(alloc, token.at, args)?,
+                    height: height + 1,
+                    rest,
+                    end: End::Sure,
+                })
             }
             Err(error) => Err(error),
         },
         OperandForm::Type => match constructed(alloc, operand_use(mode), tokens, depth) {
-            Ok((t, height, rest, end)) => {
-                Ok((nodes::type_tree(alloc, t)?, height + 1, rest, end))
+            Ok(
+                ReadTo {
+                    tree: t,
+                    height,
+                    rest,
+                    end,
+                },
+            ) => {
+                Ok(ReadTo {
+                    tree: nodes::type_tree(alloc, t)?,
+                    height: height + 1,
+                    rest,
+                    end,
+                })
             }
             Err(error) => Err(error),
         },
@@ -146,17 +174,26 @@ fn group<'a>(
     paren: Token,
     behind: &'a [Token],
     depth: u8,
-) -> Result<(Expr, u16, &'a [Token], End), Stop>
+) -> Result<ReadTo<'a, Expr>, Stop>
     ensures exact { operand_form mode paren ≡ forms.Group → ExactTo (one (g.operand mode)) nothing_continues (suc depth) (paren ∷ behind.now) (seen_to expr result) }
-    ensures shorter { IfOk result (λ r. length r.2.now ≤ length behind.now) }
-    ensures low { IfOk result (λ r. r.1 ≤ depth + 2) }
+    ensures shorter { IfOk result (λ r. length r.rest.now ≤ length behind.now) }
+    ensures low { IfOk result (λ r. r.height ≤ depth + 2) }
 {
-    let (e, height, after) = match level(alloc, Level::Or, Mode::Free, behind, depth) {
+    let Read {
+        tree: e,
+        height,
+        rest: after,
+    } = match level(alloc, Level::Or, Mode::Free, behind, depth) {
         Ok(read) => read,
         Err(error) => return Err(error),
     };
     match expect(after, TokenKind::CloseParen, within(height, depth)) {
-        Ok((_close, rest)) => Ok((nodes::open(paren.at, e), height + 1, rest, End::Sure)),
+        Ok((_close, rest)) => Ok(ReadTo {
+            tree: nodes::open(paren.at, e),
+            height: height + 1,
+            rest,
+            end: End::Sure,
+        }),
         Err(error) => Err(discard_expr(e, error)),
     }
 }

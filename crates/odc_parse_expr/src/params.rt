@@ -12,7 +12,8 @@ ghost use Rattle.odc_lookahead.specs.ParamForms.{Front, Crossed};
 ghost use Rattle.odc_lookahead.specs.Runs.{Undeclared};
 ghost use Rattle.odc_lookahead.specs.Read.{seen};
 ghost use Rattle.odc_lookahead.specs.Sets.{continues_argument, nothing_continues};
-ghost use Rattle.odc_lookahead.specs.TypeParts.{params_line, named_line, bare_line, typed_line, typed_by};
+ghost use Rattle.odc_parse_expr.specs.Fields.{typed_read};
+ghost use Rattle.odc_lookahead.specs.TypeParts.{params_line, named_line, bare_line, typed_line};
 ghost use Rattle.odc_syntax.specs.View.{param, params};
 
 use crate::binary::level;
@@ -21,6 +22,7 @@ use crate::types::ty;
 use odc_lookahead::end::inside;
 use odc_lookahead::lists::after_item;
 use odc_lookahead::name_lists::{behind_dollar, names, names_end, strip_int};
+use odc_lookahead::read::{Closed, Read};
 use odc_lookahead::shape::strip_dollar;
 use odc_lookahead::stop::Stop;
 use odc_lookahead::tokens::{strip, within};
@@ -39,10 +41,10 @@ pub fn params<'a>(
     used: Use,
     tokens: &'a [Token],
     depth: u8,
-) -> Result<(Vec<Param>, Token, u16, &'a [Token]), Stop>
+) -> Result<Read<'a, Closed<Vec<Param>>>, Stop>
     ensures exact { Exact (params_line (g.inside used)) nothing_continues depth tokens.now (closed_by (λ l. params l.items) result) }
-    ensures shorter { IfOk result (λ r. length r.3.now < length tokens.now) }
-    ensures low { IfOk result (λ r. r.2 ≤ depth) }
+    ensures shorter { IfOk result (λ r. length r.rest.now < length tokens.now) }
+    ensures low { IfOk result (λ r. r.height ≤ depth) }
 {
     match names_end(behind_dollar(inside(used), tokens)) {
         Ok(_after) => named_list(alloc, used, tokens, depth),
@@ -60,22 +62,29 @@ pub fn params<'a>(
 
 /// Names in front where no type may stand any more: they may be names of parameters, and as types they are
 /// too deep. Where a type may stand tells which it is.
+#[inline(never)]
 #[cycle(parser)]
 fn crossed<'a>(
     alloc: Global,
     used: Use,
     tokens: &'a [Token],
     at: &'a [Token],
-) -> Result<(Vec<Param>, Token, u16, &'a [Token]), Stop>
+) -> Result<Read<'a, Closed<Vec<Param>>>, Stop>
     ensures exact { (us : List SpecToken) → Front (g.inside used) tokens.now us → Undeclared us at.now → length at.now < length tokens.now → Exact (params_line (g.inside used)) nothing_continues 0 tokens.now (closed_by (λ l. params l.items) result) }
-    ensures shorter { IfOk result (λ r. length r.3.now < length tokens.now) }
-    ensures low { IfOk result (λ r. r.2 ≤ 0) }
+    ensures shorter { IfOk result (λ r. length r.rest.now < length tokens.now) }
+    ensures low { IfOk result (λ r. r.height ≤ 0) }
 {
     match bare_list(alloc, used, tokens, 1) {
-        Ok((list, _close, _height, _rest)) => Err(discard_params(
-            list,
-            Stop::Deep(at.len().saturating_sub(1)),
-        )),
+        Ok(
+            Read {
+                tree: Closed {
+                    part: list,
+                    close: _close,
+                },
+                height: _height,
+                rest: _rest,
+            },
+        ) => Err(discard_params(list, Stop::Deep(at.len().saturating_sub(1)))),
         Err(error) => Err(crossed_by(error, at.len())),
     }
 }
@@ -105,16 +114,20 @@ fn named_list<'a>(
     used: Use,
     tokens: &'a [Token],
     depth: u8,
-) -> Result<(Vec<Param>, Token, u16, &'a [Token]), Stop>
+) -> Result<Read<'a, Closed<Vec<Param>>>, Stop>
     ensures exact { StartsWithout kind.CloseParen tokens.now → Exact (named_line (g.inside used)) nothing_continues depth tokens.now (closed_by (λ l. params l.items) result) }
-    ensures shorter { IfOk result (λ r. length r.3.now < length tokens.now) }
-    ensures low { IfOk result (λ r. r.2 ≤ depth) }
+    ensures shorter { IfOk result (λ r. length r.rest.now < length tokens.now) }
+    ensures low { IfOk result (λ r. r.height ≤ depth) }
 {
     let mut list = Vec::new(alloc);
     let mut height: u16 = 0;
     let mut rest = tokens;
     'items: loop {
-        let (item, n, after) = match named(alloc, used, rest, depth) {
+        let Read {
+            tree: item,
+            height: n,
+            rest: after,
+        } = match named(alloc, used, rest, depth) {
             Ok(read) => read,
             Err(error) => return Err(discard_params(list, error)),
         };
@@ -125,7 +138,11 @@ fn named_list<'a>(
             Err(error) => return Err(discard_params(list, error)),
         };
         match end {
-            Some(close) => return Ok((list, close, height, behind)),
+            Some(close) => return Ok(Read {
+                tree: Closed { part: list, close },
+                height,
+                rest: behind,
+            }),
             None => rest = behind,
         }
     }
@@ -138,19 +155,27 @@ fn bare_list<'a>(
     used: Use,
     tokens: &'a [Token],
     depth: u8,
-) -> Result<(Vec<Param>, Token, u16, &'a [Token]), Stop>
+) -> Result<Read<'a, Closed<Vec<Param>>>, Stop>
     ensures exact { Exact (bare_line (g.inside used)) nothing_continues depth tokens.now (closed_by (λ l. params l.items) result) }
-    ensures shorter { IfOk result (λ r. length r.3.now < length tokens.now) }
-    ensures low { IfOk result (λ r. r.2 ≤ depth) }
+    ensures shorter { IfOk result (λ r. length r.rest.now < length tokens.now) }
+    ensures low { IfOk result (λ r. r.height ≤ depth) }
 {
     let mut list = Vec::new(alloc);
     if let Some((close, rest)) = strip(tokens, TokenKind::CloseParen) {
-        return Ok((list, close, 0, rest));
+        return Ok(Read {
+            tree: Closed { part: list, close },
+            height: 0,
+            rest,
+        });
     }
     let mut height: u16 = 0;
     let mut rest = tokens;
     'items: loop {
-        let (item, n, after) = match bare(alloc, used, rest, depth) {
+        let Read {
+            tree: item,
+            height: n,
+            rest: after,
+        } = match bare(alloc, used, rest, depth) {
             Ok(read) => read,
             Err(error) => return Err(discard_params(list, error)),
         };
@@ -161,7 +186,11 @@ fn bare_list<'a>(
             Err(error) => return Err(discard_params(list, error)),
         };
         match end {
-            Some(close) => return Ok((list, close, height, behind)),
+            Some(close) => return Ok(Read {
+                tree: Closed { part: list, close },
+                height,
+                rest: behind,
+            }),
             None => rest = behind,
         }
     }
@@ -174,13 +203,23 @@ fn bare<'a>(
     used: Use,
     tokens: &'a [Token],
     depth: u8,
-) -> Result<(Param, u16, &'a [Token]), Stop>
+) -> Result<Read<'a, Param>, Stop>
     ensures exact { Exact (one (g.bare_param (g.inside used))) nothing_continues depth tokens.now (seen param result) }
-    ensures shorter { IfOk result (λ r. length r.2.now < length tokens.now) }
-    ensures low { IfOk result (λ r. r.1 ≤ depth + 1) }
+    ensures shorter { IfOk result (λ r. length r.rest.now < length tokens.now) }
+    ensures low { IfOk result (λ r. r.height ≤ depth + 1) }
 {
     match ty(alloc, used, tokens, depth) {
-        Ok((t, height, rest)) => Ok((type_nodes::bare_param(alloc, t), height, rest)),
+        Ok(
+            Read {
+                tree: t,
+                height,
+                rest,
+            },
+        ) => Ok(Read {
+            tree: type_nodes::bare_param(alloc, t),
+            height,
+            rest,
+        }),
         Err(error) => Err(error),
     }
 }
@@ -192,10 +231,10 @@ fn named<'a>(
     used: Use,
     tokens: &'a [Token],
     depth: u8,
-) -> Result<(Param, u16, &'a [Token]), Stop>
+) -> Result<Read<'a, Param>, Stop>
     ensures exact { Exact (one (g.named_param (g.inside used))) continues_argument depth tokens.now (seen param result) }
-    ensures shorter { IfOk result (λ r. length r.2.now < length tokens.now) }
-    ensures low { IfOk result (λ r. r.1 ≤ depth + 1) }
+    ensures shorter { IfOk result (λ r. length r.rest.now < length tokens.now) }
+    ensures low { IfOk result (λ r. r.height ≤ depth + 1) }
 {
     match strip_dollar(inside(used), tokens) {
         Some((dollar, behind)) => parametric(alloc, dollar, behind, depth),
@@ -210,10 +249,10 @@ fn plain<'a>(
     used: Use,
     tokens: &'a [Token],
     depth: u8,
-) -> Result<(Param, u16, &'a [Token]), Stop>
+) -> Result<Read<'a, Param>, Stop>
     ensures exact { (g.inside used ≡ Parameter → StartsWithout kind.Dollar tokens.now) → Exact (one (g.named_param (g.inside used))) continues_argument depth tokens.now (seen param result) }
-    ensures shorter { IfOk result (λ r. length r.2.now < length tokens.now) }
-    ensures low { IfOk result (λ r. r.1 ≤ depth + 1) }
+    ensures shorter { IfOk result (λ r. length r.rest.now < length tokens.now) }
+    ensures low { IfOk result (λ r. r.height ≤ depth + 1) }
 {
     let (list, _colon, after) = match names(alloc, tokens) {
         Ok(read) => read,
@@ -221,19 +260,50 @@ fn plain<'a>(
     };
     match strip(after, TokenKind::Typeid) {
         Some((_typeid, behind)) => match given(alloc, behind, depth) {
-            Ok((default, height, rest)) => {
-                Ok((type_nodes::typeid_param(false, list, default), height, rest))
+            Ok(
+                Read {
+                    tree: default,
+                    height,
+                    rest,
+                },
+            ) => {
+                Ok(Read {
+                    tree: type_nodes::typeid_param(false, list, default),
+                    height,
+                    rest,
+                })
             }
             Err(error) => Err(error),
         },
         None => match strip(after, TokenKind::Assign) {
             Some((_assign, behind)) => match level(alloc, Level::Or, Mode::Free, behind, depth) {
-                Ok((e, height, rest)) => { Ok((type_nodes::inferred_param(list, e), height, rest)) }
+                Ok(
+                    Read {
+                        tree: e,
+                        height,
+                        rest,
+                    },
+                ) => {
+                    Ok(Read {
+                        tree: type_nodes::inferred_param(list, e),
+                        height,
+                        rest,
+                    })
+                }
                 Err(error) => Err(error),
             },
             None => match typed(alloc, used, after, depth) {
-                Ok((t, default, height, rest)) => {
-                    Ok((type_nodes::typed_param(list, t, default), height, rest))
+                Ok(read) => {
+                    let Read {
+                        tree: TypeAndDefault { ty: t, default },
+                        height,
+                        rest,
+                    } = read;
+                    Ok(Read {
+                        tree: type_nodes::typed_param(list, t, default),
+                        height,
+                        rest,
+                    })
                 }
                 Err(error) => Err(error),
             },
@@ -242,23 +312,44 @@ fn plain<'a>(
 }
 
 /// The type of names, and what they are given by default.
+pub struct TypeAndDefault {
+    pub ty: Type,
+    pub default: Option<Expr>,
+}
+
+/// The type of names, and what they are given by default.
+#[inline(never)]
 #[cycle(parser)]
 fn typed<'a>(
     alloc: Global,
     used: Use,
     tokens: &'a [Token],
     depth: u8,
-) -> Result<(Type, Option<Expr>, u16, &'a [Token]), Stop>
-    ensures exact { Exact (typed_line (g.inside used)) continues_argument depth tokens.now (typed_by result) }
-    ensures shorter { IfOk result (λ r. length r.3.now < length tokens.now) }
-    ensures low { IfOk result (λ r. r.2 ≤ depth + 1) }
+) -> Result<Read<'a, TypeAndDefault>, Stop>
+    ensures exact { Exact (typed_line (g.inside used)) continues_argument depth tokens.now (seen typed_read result) }
+    ensures shorter { IfOk result (λ r. length r.rest.now < length tokens.now) }
+    ensures low { IfOk result (λ r. r.height ≤ depth + 1) }
 {
-    let (t, n, behind) = match ty(alloc, used, tokens, depth) {
+    let Read {
+        tree: t,
+        height: n,
+        rest: behind,
+    } = match ty(alloc, used, tokens, depth) {
         Ok(read) => read,
         Err(error) => return Err(error),
     };
     match given(alloc, behind, depth) {
-        Ok((default, m, rest)) => Ok((t, default, n.max(m), rest)),
+        Ok(
+            Read {
+                tree: default,
+                height: m,
+                rest,
+            },
+        ) => Ok(Read {
+            tree: TypeAndDefault { ty: t, default },
+            height: n.max(m),
+            rest,
+        }),
         Err(error) => Err(discard_type(t, error)),
     }
 }
@@ -270,10 +361,10 @@ fn parametric<'a>(
     dollar: Token,
     behind: &'a [Token],
     depth: u8,
-) -> Result<(Param, u16, &'a [Token]), Stop>
+) -> Result<Read<'a, Param>, Stop>
     ensures exact { dollar.kind ≡ kind.Dollar → Exact (one (g.named_param Parameter)) continues_argument depth (dollar ∷ behind.now) (seen param result) }
-    ensures shorter { IfOk result (λ r. length r.2.now < length behind.now) }
-    ensures low { IfOk result (λ r. r.1 ≤ depth + 1) }
+    ensures shorter { IfOk result (λ r. length r.rest.now < length behind.now) }
+    ensures low { IfOk result (λ r. r.height ≤ depth + 1) }
 {
     let (list, _colon, after) = match names(alloc, behind) {
         Ok(read) => read,
@@ -281,8 +372,18 @@ fn parametric<'a>(
     };
     match strip(after, TokenKind::Typeid) {
         Some((_typeid, rest)) => match given(alloc, rest, depth) {
-            Ok((default, height, last)) => {
-                Ok((type_nodes::typeid_param(true, list, default), height, last))
+            Ok(
+                Read {
+                    tree: default,
+                    height,
+                    rest: last,
+                },
+            ) => {
+                Ok(Read {
+                    tree: type_nodes::typeid_param(true, list, default),
+                    height,
+                    rest: last,
+                })
             }
             Err(error) => Err(error),
         },
@@ -292,12 +393,18 @@ fn parametric<'a>(
                     return Err(Stop::Deep(rest.len()));
                 }
                 match given(alloc, rest, depth) {
-                    Ok((default, height, last)) => {
-                        Ok((
-                            type_nodes::int_param(alloc, list, int, default)?,
-                            height.max(1),
-                            last,
-                        ))
+                    Ok(
+                        Read {
+                            tree: default,
+                            height,
+                            rest: last,
+                        },
+                    ) => {
+                        Ok(Read {
+                            tree: type_nodes::int_param(alloc, list, int, default)?,
+                            height: height.max(1),
+                            rest: last,
+                        })
                     }
                     Err(error) => Err(error),
                 }

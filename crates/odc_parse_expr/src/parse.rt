@@ -12,6 +12,7 @@ use crate::binary::level;
 use crate::declaration::declaration;
 use odc_lookahead::blame::{end_of, stopped};
 use odc_lookahead::error::ParseError;
+use odc_lookahead::read::Read;
 use odc_syntax::grammar::{Level, Mode};
 use odc_syntax::token::{Token, Tokens};
 use odc_syntax::tree::{Decl, Expr};
@@ -31,7 +32,13 @@ pub fn parse_expr(alloc: Global, t: &Tokens, from: usize) -> Result<Parsed<Expr>
     ensures not_read { IfErr result (NotRead (expression Free) t.now.list.items t.now.end from) }
 {
     match level(alloc, Level::Or, Mode::Free, tokens_from(t, from), 200) {
-        Ok((tree, depth, rest)) => match end_of(t, from, depth, rest.len()) {
+        Ok(
+            Read {
+                tree,
+                height: depth,
+                rest,
+            },
+        ) => match end_of(t, from, depth, rest.len()) {
             Ok(next) => Ok(Parsed { tree, next }),
             Err(fault) => Err(discard_expr(tree, ParseError::Fault(fault))),
         },
@@ -46,7 +53,13 @@ pub fn parse_decl(alloc: Global, t: &Tokens, from: usize) -> Result<Parsed<Decl>
     ensures not_read { IfErr result (NotRead (g.declaration Free) t.now.list.items t.now.end from) }
 {
     match declaration(alloc, Mode::Free, tokens_from(t, from), 200) {
-        Ok((tree, depth, rest)) => match end_of(t, from, depth, rest.len()) {
+        Ok(
+            Read {
+                tree,
+                height: depth,
+                rest,
+            },
+        ) => match end_of(t, from, depth, rest.len()) {
             Ok(next) => Ok(Parsed { tree, next }),
             Err(fault) => Err(discard_decl(tree, ParseError::Fault(fault))),
         },

@@ -12,11 +12,12 @@ ghost use Rattle.odc_lookahead.specs.Read.{seen};
 ghost use Rattle.odc_lookahead.specs.Sets.{starts_suffix, nothing_continues};
 ghost use Rattle.odc_parse_expr.specs.Suffixes.{suffix, high_of};
 
-use crate::arguments::{ArgumentList, arguments};
+use crate::arguments::arguments;
 use crate::binary::level;
 use crate::operand::operand;
 use crate::types::ty;
 use odc_lookahead::end::{End, over};
+use odc_lookahead::read::{Closed, Read, ReadTo};
 use odc_lookahead::stop::Stop;
 use odc_lookahead::suffix::{SuffixForm, next_suffix};
 use odc_lookahead::tokens::{expect, strip, within};
@@ -55,12 +56,18 @@ pub fn postfix<'a>(
     mode: Mode,
     tokens: &'a [Token],
     depth: u8,
-) -> Result<(Expr, u16, &'a [Token]), Stop>
+) -> Result<Read<'a, Expr>, Stop>
     ensures exact { Exact (one (g.postfix mode)) (starts_suffix mode) depth tokens.now (seen expr result) }
-    ensures shorter { IfOk result (λ r. length r.2.now < length tokens.now) }
-    ensures low { IfOk result (λ r. r.1 ≤ depth + 1) }
+    ensures shorter { IfOk result (λ r. length r.rest.now < length tokens.now) }
+    ensures low { IfOk result (λ r. r.height ≤ depth + 1) }
+    ensures fits { IfOk result (λ r. 0 < depth) }
 {
-    let (mut e, mut height, mut rest, mut end) = match operand(alloc, mode, tokens, depth) {
+    let ReadTo {
+        tree: mut e,
+        height: mut height,
+        rest: mut rest,
+        end: mut end,
+    } = match operand(alloc, mode, tokens, depth) {
         Ok(read) => read,
         Err(error) => return Err(error),
     };
@@ -68,7 +75,11 @@ pub fn postfix<'a>(
         if height >= u16::from(depth) {
             return Err(discard_expr(e, over(end, behind)));
         }
-        let (s, n, after) = match read_suffix(alloc, mode, form, token, behind, depth - 1) {
+        let Read {
+            tree: s,
+            height: n,
+            rest: after,
+        } = match read_suffix(alloc, mode, form, token, behind, depth - 1) {
             Ok(read) => read,
             Err(error) => return Err(discard_expr(e, error)),
         };
@@ -77,10 +88,15 @@ pub fn postfix<'a>(
         rest = after;
         end = End::Sure;
     }
-    Ok((e, height, rest))
+    Ok(Read {
+        tree: e,
+        height,
+        rest,
+    })
 }
 
 /// What stands behind an operand, from its first token on.
+#[inline(never)]
 #[cycle(parser)]
 fn read_suffix<'a>(
     alloc: Global,
@@ -89,27 +105,61 @@ fn read_suffix<'a>(
     token: Token,
     behind: &'a [Token],
     depth: u8,
-) -> Result<(Suffix, u16, &'a [Token]), Stop>
+) -> Result<Read<'a, Suffix>, Stop>
     ensures exact { suffix_form mode token.kind ≡ form → starts_suffix mode token.kind ≡ true → Exact (one (g.suffix mode)) nothing_continues depth (token ∷ behind.now) (seen suffix result) }
-    ensures shorter { IfOk result (λ r. length r.2.now ≤ length behind.now) }
-    ensures low { IfOk result (λ r. r.1 ≤ depth + 1) }
+    ensures shorter { IfOk result (λ r. length r.rest.now ≤ length behind.now) }
+    ensures low { IfOk result (λ r. r.height ≤ depth + 1) }
 {
     match form {
-        SuffixForm::Deref => Ok((Suffix::Deref(token.at), 0, behind)),
-        SuffixForm::OrReturn => Ok((Suffix::OrReturn, 0, behind)),
+        SuffixForm::Deref => Ok(Read {
+            tree: Suffix::Deref(token.at),
+            height: 0,
+            rest: behind,
+        }),
+        SuffixForm::OrReturn => Ok(Read {
+            tree: Suffix::OrReturn,
+            height: 0,
+            rest: behind,
+        }),
         SuffixForm::Member => member(alloc, mode, token, behind, depth),
         SuffixForm::Bracket => bracket(alloc, mode, token, behind, depth),
         SuffixForm::Call => match arguments(alloc, TokenKind::CloseParen, behind, depth) {
-            Ok((list, height, rest)) => {
-                let ArgumentList { args, close: _ } = list;
-                Ok((Suffix::Call(args), height, rest))
+            Ok(
+                Read {
+                    tree: list,
+                    height,
+                    rest,
+                },
+            ) => {
+                let Closed {
+                    part: args,
+                    close: _,
+                } = list;
+                Ok(Read {
+                    tree: Suffix::Call(args),
+                    height,
+                    rest,
+                })
             }
             Err(error) => Err(error),
         },
         SuffixForm::Literal => match arguments(alloc, TokenKind::CloseBrace, behind, depth) {
-            Ok((list, height, rest)) => {
-                let ArgumentList { args, close: _ } = list;
-                Ok((Suffix::Literal(args), height, rest))
+            Ok(
+                Read {
+                    tree: list,
+                    height,
+                    rest,
+                },
+            ) => {
+                let Closed {
+                    part: args,
+                    close: _,
+                } = list;
+                Ok(Read {
+                    tree: Suffix::Literal(args),
+                    height,
+                    rest,
+                })
             }
             Err(error) => Err(error),
         },
@@ -125,24 +175,36 @@ fn member<'a>(
     dot: Token,
     behind: &'a [Token],
     depth: u8,
-) -> Result<(Suffix, u16, &'a [Token]), Stop>
+) -> Result<Read<'a, Suffix>, Stop>
     ensures exact { dot.kind ≡ kind.Dot → Exact (one (g.suffix mode)) nothing_continues depth (dot ∷ behind.now) (seen suffix result) }
-    ensures shorter { IfOk result (λ r. length r.2.now ≤ length behind.now) }
-    ensures low { IfOk result (λ r. r.1 ≤ depth + 1) }
+    ensures shorter { IfOk result (λ r. length r.rest.now ≤ length behind.now) }
+    ensures low { IfOk result (λ r. r.height ≤ depth + 1) }
 {
     if let Some((name, rest)) = strip(behind, TokenKind::Name) {
-        return Ok((Suffix::Select(dot.at, name), 0, rest));
+        return Ok(Read {
+            tree: Suffix::Select(dot.at, name),
+            height: 0,
+            rest,
+        });
     }
     let (_open, inner) = match strip(behind, TokenKind::OpenParen) {
         Some(found) => found,
         None => return Err(Stop::Syntax(behind.len())),
     };
-    let (t, height, after) = match ty(alloc, Use::Plain, inner, depth) {
+    let Read {
+        tree: t,
+        height,
+        rest: after,
+    } = match ty(alloc, Use::Plain, inner, depth) {
         Ok(read) => read,
         Err(error) => return Err(error),
     };
     match expect(after, TokenKind::CloseParen, within(height, depth)) {
-        Ok((_close, rest)) => Ok((Suffix::Assert(dot.at, t), height, rest)),
+        Ok((_close, rest)) => Ok(Read {
+            tree: Suffix::Assert(dot.at, t),
+            height,
+            rest,
+        }),
         Err(error) => Err(discard_type(t, error)),
     }
 }
@@ -155,27 +217,48 @@ fn bracket<'a>(
     bracket: Token,
     behind: &'a [Token],
     depth: u8,
-) -> Result<(Suffix, u16, &'a [Token]), Stop>
+) -> Result<Read<'a, Suffix>, Stop>
     ensures exact { bracket.kind ≡ kind.OpenBracket → Exact (one (g.suffix mode)) nothing_continues depth (bracket ∷ behind.now) (seen suffix result) }
-    ensures shorter { IfOk result (λ r. length r.2.now ≤ length behind.now) }
-    ensures low { IfOk result (λ r. r.1 ≤ depth + 1) }
+    ensures shorter { IfOk result (λ r. length r.rest.now ≤ length behind.now) }
+    ensures low { IfOk result (λ r. r.height ≤ depth + 1) }
 {
     if let Some((_colon, rest)) = strip(behind, TokenKind::Colon) {
         return match high(alloc, rest, depth) {
-            Ok((end, height, after)) => {
-                let HighEnd { value, close: _ } = end;
-                Ok((Suffix::Cut(bracket.at, None, value), height, after))
+            Ok(
+                Read {
+                    tree: end,
+                    height,
+                    rest: after,
+                },
+            ) => {
+                let Closed {
+                    part: value,
+                    close: _,
+                } = end;
+                Ok(Read {
+                    tree: Suffix::Cut(bracket.at, None, value),
+                    height,
+                    rest: after,
+                })
             }
             Err(error) => Err(error),
         };
     }
-    let (e, n, after) = match level(alloc, Level::Or, Mode::Free, behind, depth) {
+    let Read {
+        tree: e,
+        height: n,
+        rest: after,
+    } = match level(alloc, Level::Or, Mode::Free, behind, depth) {
         Ok(read) => read,
         Err(error) => return Err(error),
     };
     if let Some((_close, rest)) = strip(after, TokenKind::CloseBracket) {
         if n <= u16::from(depth) {
-            return Ok((Suffix::Index(bracket.at, e), n, rest));
+            return Ok(Read {
+                tree: Suffix::Index(bracket.at, e),
+                height: n,
+                rest,
+            });
         }
         return Err(discard_expr(e, Stop::Deep(rest.len())));
     }
@@ -184,18 +267,25 @@ fn bracket<'a>(
         Err(error) => return Err(discard_expr(e, error)),
     };
     match high(alloc, rest, depth) {
-        Ok((end, m, last)) => {
-            let HighEnd { value, close: _ } = end;
-            Ok((Suffix::Cut(bracket.at, Some(e), value), n.max(m), last))
+        Ok(
+            Read {
+                tree: end,
+                height: m,
+                rest: last,
+            },
+        ) => {
+            let Closed {
+                part: value,
+                close: _,
+            } = end;
+            Ok(Read {
+                tree: Suffix::Cut(bracket.at, Some(e), value),
+                height: n.max(m),
+                rest: last,
+            })
         }
         Err(error) => Err(discard_expr(e, error)),
     }
-}
-
-/// The high end of a cut, if it is given, and the closing bracket.
-pub struct HighEnd {
-    pub value: Option<Expr>,
-    pub close: Token,
 }
 
 /// The high end of a cut, if it is given, up to the closing bracket.
@@ -204,32 +294,41 @@ fn high<'a>(
     alloc: Global,
     tokens: &'a [Token],
     depth: u8,
-) -> Result<(HighEnd, u16, &'a [Token]), Stop>
+) -> Result<Read<'a, Closed<Option<Expr>>>, Stop>
     ensures exact { Exact high_line nothing_continues depth tokens.now (seen high_of result) }
-    ensures shorter { IfOk result (λ r. length r.2.now < length tokens.now) }
-    ensures low { IfOk result (λ r. r.1 ≤ depth + 1) }
+    ensures shorter { IfOk result (λ r. length r.rest.now < length tokens.now) }
+    ensures low { IfOk result (λ r. r.height ≤ depth + 1) }
 {
     if let Some((close, rest)) = strip(tokens, TokenKind::CloseBracket) {
-        return Ok((HighEnd { value: None, close }, 0, rest));
+        return Ok(Read {
+            tree: Closed { part: None, close },
+            height: 0,
+            rest,
+        });
     }
-    let (e, height, after) = match level(alloc, Level::Or, Mode::Free, tokens, depth) {
+    let Read {
+        tree: e,
+        height,
+        rest: after,
+    } = match level(alloc, Level::Or, Mode::Free, tokens, depth) {
         Ok(read) => read,
         Err(error) => return Err(error),
     };
     match expect(after, TokenKind::CloseBracket, within(height, depth)) {
-        Ok((close, rest)) => Ok((
-            HighEnd {
-                value: Some(e),
+        Ok((close, rest)) => Ok(Read {
+            tree: Closed {
+                part: Some(e),
                 close,
             },
             height,
             rest,
-        )),
+        }),
         Err(error) => Err(discard_expr(e, error)),
     }
 }
 
 /// An expression with what stands behind it.
+#[inline(never)]
 fn applied(alloc: Global, e: Expr, s: Suffix) -> Result<Expr, AllocError>
     ensures { IfOk result (λ u. expr u ≡ suffixed (expr e) (suffix s)) }
 {

@@ -16,6 +16,7 @@ use crate::block::block;
 use crate::signatures::signature;
 use odc_lookahead::end::End;
 use odc_lookahead::operators::takes_braces;
+use odc_lookahead::read::{Read, ReadTo};
 use odc_lookahead::stop::Stop;
 use odc_lookahead::tokens::strip;
 use odc_nodes::type_nodes;
@@ -32,10 +33,10 @@ pub fn procedure<'a>(
     mode: Mode,
     tokens: &'a [Token],
     depth: u8,
-) -> Result<(Expr, u16, &'a [Token], End), Stop>
+) -> Result<ReadTo<'a, Expr>, Stop>
     ensures exact { StartsWith kind.Proc tokens.now → ExactTo (one (g.operand mode)) nothing_continues (suc depth) tokens.now (seen_to expr result) }
-    ensures shorter { IfOk result (λ r. length r.2.now < length tokens.now) }
-    ensures low { IfOk result (λ r. r.1 ≤ depth + 2) }
+    ensures shorter { IfOk result (λ r. length r.rest.now < length tokens.now) }
+    ensures low { IfOk result (λ r. r.height ≤ depth + 2) }
 {
     match strip(tokens, TokenKind::Proc) {
         Some((proc, behind)) => lambda(alloc, mode, proc, behind, depth),
@@ -51,12 +52,17 @@ fn lambda<'a>(
     proc: Token,
     behind: &'a [Token],
     depth: u8,
-) -> Result<(Expr, u16, &'a [Token], End), Stop>
+) -> Result<ReadTo<'a, Expr>, Stop>
     ensures exact { proc.kind ≡ kind.Proc → ExactTo (one (g.operand mode)) nothing_continues (suc depth) (proc ∷ behind.now) (seen_to expr result) }
-    ensures shorter { IfOk result (λ r. length r.2.now ≤ length behind.now) }
-    ensures low { IfOk result (λ r. r.1 ≤ depth + 2) }
+    ensures shorter { IfOk result (λ r. length r.rest.now ≤ length behind.now) }
+    ensures low { IfOk result (λ r. r.height ≤ depth + 2) }
 {
-    let (s, height, rest, end) = match signature(alloc, Use::Operand, proc, behind, depth) {
+    let ReadTo {
+        tree: s,
+        height,
+        rest,
+        end,
+    } = match signature(alloc, Use::Operand, proc, behind, depth) {
         Ok(read) => read,
         Err(error) => return Err(error),
     };
@@ -68,11 +74,17 @@ fn lambda<'a>(
                 Err(discard_signature(s, Stop::Syntax(rest.len())))
             }
         }
-        None => Ok((type_nodes::proc_type(alloc, s)?, height + 2, rest, end)),
+        None => Ok(ReadTo {
+            tree: type_nodes::proc_type(alloc, s)?,
+            height: height + 2,
+            rest,
+            end,
+        }),
     }
 }
 
 /// A signature that was read, and the body behind it.
+#[inline(never)]
 #[cycle(parser)]
 fn with_body<'a>(
     alloc: Global,
@@ -80,19 +92,25 @@ fn with_body<'a>(
     height: u16,
     tokens: &'a [Token],
     depth: u8,
-) -> Result<(Expr, u16, &'a [Token], End), Stop>
+) -> Result<ReadTo<'a, Expr>, Stop>
     ensures exact { height ≤ depth → (mode : Mode) (ts : List SpecToken) → g.later mode ≡ Free → StartsWith kind.Proc ts → Found (one (g.sig Operand)) nothing_continues depth ts (signature s) height tokens.now → StartsWith kind.OpenBrace tokens.now
         → ExactTo (one (g.operand mode)) nothing_continues (suc depth) ts (seen_to expr result) }
-    ensures shorter { IfOk result (λ r. length r.2.now < length tokens.now) }
-    ensures low { height ≤ depth → IfOk result (λ r. r.1 ≤ depth + 2) }
+    ensures shorter { IfOk result (λ r. length r.rest.now < length tokens.now) }
+    ensures low { height ≤ depth → IfOk result (λ r. r.height ≤ depth + 2) }
 {
     match block(alloc, tokens, depth) {
-        Ok((body, n, rest)) => Ok((
-            type_nodes::proc_literal(alloc, s, body)?,
-            height.max(n).saturating_add(1),
+        Ok(
+            Read {
+                tree: body,
+                height: n,
+                rest,
+            },
+        ) => Ok(ReadTo {
+            tree: type_nodes::proc_literal(alloc, s, body)?,
+            height: height.max(n).saturating_add(1),
             rest,
-            End::Sure,
-        )),
+            end: End::Sure,
+        }),
         Err(error) => Err(discard_signature(s, error)),
     }
 }

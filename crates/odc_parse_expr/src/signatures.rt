@@ -12,6 +12,7 @@ ghost use Rattle.odc_lookahead.specs.TypeParts.{params_line, Convention};
 use crate::params::params;
 use crate::types::type_to;
 use odc_lookahead::end::{End, at_end};
+use odc_lookahead::read::{Closed, Read, ReadTo};
 use odc_lookahead::stop::Stop;
 use odc_lookahead::tokens::{expect, strip};
 use odc_nodes::type_nodes;
@@ -29,27 +30,41 @@ pub fn signature<'a>(
     proc: Token,
     behind: &'a [Token],
     depth: u8,
-) -> Result<(Signature, u16, &'a [Token], End), Stop>
+) -> Result<ReadTo<'a, Signature>, Stop>
     ensures exact { proc.kind ≡ kind.Proc → ExactAs used (one (g.sig used)) nothing_continues depth (proc ∷ behind.now) (seen_to signature result) }
-    ensures shorter { IfOk result (λ r. length r.2.now ≤ length behind.now) }
-    ensures low { IfOk result (λ r. r.1 ≤ depth) }
+    ensures shorter { IfOk result (λ r. length r.rest.now ≤ length behind.now) }
+    ensures low { IfOk result (λ r. r.height ≤ depth) }
 {
     let (convention, after) = convention(behind);
     let (_open, inner) = match expect(after, TokenKind::OpenParen, true) {
         Ok(found) => found,
         Err(error) => return Err(error),
     };
-    let (list, _close, n, rest) = match params(alloc, Use::Parameter, inner, depth) {
+    let Read {
+        tree: Closed {
+            part: list,
+            close: _close,
+        },
+        height: n,
+        rest,
+    } = match params(alloc, Use::Parameter, inner, depth) {
         Ok(read) => read,
         Err(error) => return Err(error),
     };
     match results(alloc, used, rest, depth) {
-        Ok((given, m, last, end)) => Ok((
-            type_nodes::signature(proc.at, convention, list, given),
-            n.max(m),
-            last,
+        Ok(
+            ReadTo {
+                tree: given,
+                height: m,
+                rest: last,
+                end,
+            },
+        ) => Ok(ReadTo {
+            tree: type_nodes::signature(proc.at, convention, list, given),
+            height: n.max(m),
+            rest: last,
             end,
-        )),
+        }),
         Err(error) => Err(discard_params(list, error)),
     }
 }
@@ -66,33 +81,64 @@ fn convention(tokens: &[Token]) -> (Option<Token>, &[Token])
 }
 
 /// What a procedure gives, if it gives something.
+#[inline(never)]
 #[cycle(parser)]
 fn results<'a>(
     alloc: Global,
     used: Use,
     tokens: &'a [Token],
     depth: u8,
-) -> Result<(Results, u16, &'a [Token], End), Stop>
+) -> Result<ReadTo<'a, Results>, Stop>
     ensures exact { ExactAs used (one (g.results used)) nothing_continues depth tokens.now (seen_to result_kind result) }
-    ensures shorter { IfOk result (λ r. length r.2.now ≤ length tokens.now) }
-    ensures low { IfOk result (λ r. r.1 ≤ depth) }
+    ensures shorter { IfOk result (λ r. length r.rest.now ≤ length tokens.now) }
+    ensures low { IfOk result (λ r. r.height ≤ depth) }
 {
     let (_arrow, behind) = match strip(tokens, TokenKind::Arrow) {
         Some(found) => found,
-        None => return Ok((Results::None, 0, tokens, End::Sure)),
+        None => return Ok(ReadTo {
+            tree: Results::None,
+            height: 0,
+            rest: tokens,
+            end: End::Sure,
+        }),
     };
     match strip(behind, TokenKind::OpenParen) {
         Some((_open, inner)) => match strip(inner, TokenKind::CloseParen) {
             Some((_close, _last)) => Err(Stop::Syntax(inner.len())),
             None => match params(alloc, used, inner, depth) {
-                Ok((list, _close, height, rest)) => {
-                    Ok((Results::List(list), height, rest, End::Sure))
+                Ok(read) => {
+                    let Read {
+                        tree: Closed {
+                            part: list,
+                            close: _close,
+                        },
+                        height,
+                        rest,
+                    } = read;
+                    Ok(ReadTo {
+                        tree: Results::List(list),
+                        height,
+                        rest,
+                        end: End::Sure,
+                    })
                 }
                 Err(error) => Err(error),
             },
         },
         None => match type_to(alloc, at_end(used), behind, depth) {
-            Ok((t, height, rest, end)) => Ok((Results::One(t), height, rest, end)),
+            Ok(
+                ReadTo {
+                    tree: t,
+                    height,
+                    rest,
+                    end,
+                },
+            ) => Ok(ReadTo {
+                tree: Results::One(t),
+                height,
+                rest,
+                end,
+            }),
             Err(error) => Err(error),
         },
     }

@@ -14,13 +14,14 @@ ghost use Rattle.odc_lookahead.specs.StatementSets.{continues_simple, NoAssignme
 use crate::binary::level;
 use crate::exprs::{exprs, exprs_from};
 use odc_lookahead::operators::later;
+use odc_lookahead::read::Read;
 use odc_lookahead::stop::Stop;
 use odc_lookahead::tokens::first;
 use odc_nodes::stmt_nodes;
 use odc_syntax::grammar::{Level, Mode};
 use odc_syntax::token::{Token, TokenKind};
 use odc_syntax::tree::{AssignOp, BinaryOp, Expr, Stmt};
-use odc_tree::discard::{discard_expr, discard_exprs};
+use odc_tree::discard::discard_exprs;
 use std::alloc::Global;
 
 /// An assignment, or expressions alone.
@@ -30,16 +31,22 @@ pub fn simple<'a>(
     mode: Mode,
     tokens: &'a [Token],
     depth: u8,
-) -> Result<(Stmt, u16, &'a [Token]), Stop>
+) -> Result<Read<'a, Stmt>, Stop>
     ensures exact { Exact (one (g.simple mode)) (continues_simple mode) depth tokens.now (seen stmt result) }
-    ensures shorter { IfOk result (λ r. length r.2.now < length tokens.now) }
-    ensures low { IfOk result (λ r. r.1 ≤ depth + 1) }
+    ensures shorter { IfOk result (λ r. length r.rest.now < length tokens.now) }
+    ensures low { IfOk result (λ r. r.height ≤ depth + 1) }
 {
     if depth == 0 {
         return Err(nothing_fits(alloc, mode, tokens));
     }
     match level(alloc, Level::Or, mode, tokens, depth - 1) {
-        Ok((first, height, rest)) => simple_from(alloc, mode, first, height, rest, depth - 1),
+        Ok(
+            Read {
+                tree: first,
+                height,
+                rest,
+            },
+        ) => simple_from(alloc, mode, first, height, rest, depth - 1),
         Err(error) => Err(error),
     }
 }
@@ -50,7 +57,7 @@ pub fn nothing_fits(alloc: Global, mode: Mode, tokens: &[Token]) -> Stop
     ensures exact { Exact (one (g.expression mode)) (continues levels.Or mode) 0 tokens.now (refused result) }
 {
     match level(alloc, Level::Or, mode, tokens, 0) {
-        Ok((e, _height, _rest)) => discard_expr(e, Stop::Memory),
+        Ok(_read) => unreachable!(),
         Err(error) => error,
     }
 }
@@ -65,35 +72,45 @@ pub fn simple_from<'a>(
     height: u16,
     tokens: &'a [Token],
     depth: u8,
-) -> Result<(Stmt, u16, &'a [Token]), Stop>
+) -> Result<Read<'a, Stmt>, Stop>
+    requires { height ≤ depth + 1 }
     ensures exact { (ts : List TokenValue) → Found (one (g.expression mode)) (continues levels.Or mode) depth ts (expr first) height tokens.now
         → Exact (one (g.simple mode)) (continues_simple mode) (suc depth) ts (seen stmt result) }
-    ensures shorter { IfOk result (λ r. length r.2.now ≤ length tokens.now) }
-    ensures low { height ≤ depth + 1 → IfOk result (λ r. r.1 ≤ depth + 2) }
+    ensures shorter { IfOk result (λ r. length r.rest.now ≤ length tokens.now) }
+    ensures low { IfOk result (λ r. r.height ≤ depth + 2) }
 {
-    // Nothing that is read is deeper, so that the sums below fit.
-    let most = u16::from(depth) + 1;
-    if height > most {
-        return Err(discard_expr(first, Stop::Memory));
-    }
     let at = first.first;
-    let (places, n, rest) = match exprs_from(alloc, mode, first, height, tokens, depth) {
+    let Read {
+        tree: places,
+        height: n,
+        rest,
+    } = match exprs_from(alloc, mode, first, height, tokens, depth) {
         Ok(read) => read,
         Err(error) => return Err(error),
     };
     let (op, token, behind) = match assignment(rest) {
         Some(found) => found,
-        None => return Ok((stmt_nodes::eval(alloc, at, places)?, n + 1, rest)),
+        None => return Ok(Read {
+            tree: stmt_nodes::eval(alloc, at, places)?,
+            height: n + 1,
+            rest,
+        }),
     };
     if n > u16::from(depth) {
         return Err(discard_exprs(places, Stop::Deep(behind.len())));
     }
     match exprs(alloc, later(mode), behind, depth) {
-        Ok((values, m, after)) => Ok((
-            stmt_nodes::assign(alloc, token.at, places, op, values)?,
-            n.max(m) + 1,
-            after,
-        )),
+        Ok(
+            Read {
+                tree: values,
+                height: m,
+                rest: after,
+            },
+        ) => Ok(Read {
+            tree: stmt_nodes::assign(alloc, token.at, places, op, values)?,
+            height: n.max(m) + 1,
+            rest: after,
+        }),
         Err(error) => Err(discard_exprs(places, error)),
     }
 }

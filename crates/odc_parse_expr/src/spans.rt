@@ -14,6 +14,7 @@ ghost use Rattle.odc_lookahead.specs.SwitchSets.{continues_span, begins_items};
 
 use crate::binary::level;
 use crate::block::stands_at;
+use odc_lookahead::read::Read;
 use odc_lookahead::stop::Stop;
 use odc_lookahead::tokens::strip;
 use odc_nodes::switch_nodes;
@@ -31,13 +32,19 @@ pub fn span<'a>(
     mode: Mode,
     tokens: &'a [Token],
     depth: u8,
-) -> Result<(Span, u16, &'a [Token]), Stop>
+) -> Result<Read<'a, Span>, Stop>
     ensures exact { Exact (one (g.span_ mode)) (continues_span mode) depth tokens.now (seen span_of result) }
-    ensures shorter { IfOk result (λ r. length r.2.now < length tokens.now) }
-    ensures low { IfOk result (λ r. r.1 ≤ depth + 1) }
+    ensures shorter { IfOk result (λ r. length r.rest.now < length tokens.now) }
+    ensures low { IfOk result (λ r. r.height ≤ depth + 1) }
 {
     match level(alloc, Level::Or, mode, tokens, depth) {
-        Ok((from, height, rest)) => span_from(alloc, mode, from, height, rest, depth),
+        Ok(
+            Read {
+                tree: from,
+                height,
+                rest,
+            },
+        ) => span_from(alloc, mode, from, height, rest, depth),
         Err(error) => Err(error),
     }
 }
@@ -51,18 +58,28 @@ fn span_from<'a>(
     height: u16,
     tokens: &'a [Token],
     depth: u8,
-) -> Result<(Span, u16, &'a [Token]), Stop>
+) -> Result<Read<'a, Span>, Stop>
     ensures exact { (ts : List TokenValue) → Found (one (g.expression mode)) (continues levels.Or mode) depth ts (expr from) height tokens.now
         → Exact (one (g.span_ mode)) (continues_span mode) depth ts (seen span_of result) }
-    ensures shorter { IfOk result (λ r. length r.2.now ≤ length tokens.now) }
-    ensures low { height ≤ depth + 1 → IfOk result (λ r. r.1 ≤ depth + 1) }
+    ensures shorter { IfOk result (λ r. length r.rest.now ≤ length tokens.now) }
+    ensures low { height ≤ depth + 1 → IfOk result (λ r. r.height ≤ depth + 1) }
 {
     if let Some((_through, behind)) = strip(tokens, TokenKind::DotDotEqual) {
         if height > u16::from(depth) {
             return Err(discard_expr(from, Stop::Deep(behind.len())));
         }
         return match level(alloc, Level::Or, mode, behind, depth) {
-            Ok((to, n, rest)) => Ok((switch_nodes::through(from, to), height.max(n), rest)),
+            Ok(
+                Read {
+                    tree: to,
+                    height: n,
+                    rest,
+                },
+            ) => Ok(Read {
+                tree: switch_nodes::through(from, to),
+                height: height.max(n),
+                rest,
+            }),
             Err(error) => Err(discard_expr(from, error)),
         };
     }
@@ -71,29 +88,49 @@ fn span_from<'a>(
             return Err(discard_expr(from, Stop::Deep(behind.len())));
         }
         return match level(alloc, Level::Or, mode, behind, depth) {
-            Ok((to, n, rest)) => Ok((switch_nodes::below(from, to), height.max(n), rest)),
+            Ok(
+                Read {
+                    tree: to,
+                    height: n,
+                    rest,
+                },
+            ) => Ok(Read {
+                tree: switch_nodes::below(from, to),
+                height: height.max(n),
+                rest,
+            }),
             Err(error) => Err(discard_expr(from, error)),
         };
     }
-    Ok((switch_nodes::alone(from), height, tokens))
+    Ok(Read {
+        tree: switch_nodes::alone(from),
+        height,
+        rest: tokens,
+    })
 }
 
 /// The values of a case, if there are any.
 #[cycle(parser)]
-pub fn items<'a>(
-    alloc: Global,
-    tokens: &'a [Token],
-    depth: u8,
-) -> Result<(Vec<Span>, u16, &'a [Token]), Stop>
+pub fn items<'a>(alloc: Global, tokens: &'a [Token], depth: u8) -> Result<Read<'a, Vec<Span>>, Stop>
     ensures exact { Exact (one g.items) begins_items depth tokens.now (seen span_list result) }
-    ensures shorter { IfOk result (λ r. length r.2.now ≤ length tokens.now) }
-    ensures low { IfOk result (λ r. r.1 ≤ depth + 1) }
+    ensures shorter { IfOk result (λ r. length r.rest.now ≤ length tokens.now) }
+    ensures low { IfOk result (λ r. r.height ≤ depth + 1) }
 {
     match span(alloc, Mode::Free, tokens, depth) {
-        Ok((first, height, rest)) => items_from(alloc, first, height, rest, depth),
+        Ok(
+            Read {
+                tree: first,
+                height,
+                rest,
+            },
+        ) => items_from(alloc, first, height, rest, depth),
         Err(error) => {
             if stands_at(error, tokens.len()) {
-                Ok((Vec::new(alloc), 0, tokens))
+                Ok(Read {
+                    tree: Vec::new(alloc),
+                    height: 0,
+                    rest: tokens,
+                })
             } else {
                 Err(error)
             }
@@ -109,11 +146,11 @@ fn items_from<'a>(
     height: u16,
     tokens: &'a [Token],
     depth: u8,
-) -> Result<(Vec<Span>, u16, &'a [Token]), Stop>
+) -> Result<Read<'a, Vec<Span>>, Stop>
     ensures exact { (ts : List TokenValue) → length tokens.now < length ts → Found (one (g.span_ modes.Free)) (continues_span modes.Free) depth ts (span_of first) height tokens.now
         → Exact (one g.items) begins_items depth ts (seen span_list result) }
-    ensures shorter { IfOk result (λ r. length r.2.now ≤ length tokens.now) }
-    ensures low { height ≤ depth + 1 → IfOk result (λ r. r.1 ≤ depth + 1) }
+    ensures shorter { IfOk result (λ r. length r.rest.now ≤ length tokens.now) }
+    ensures low { height ≤ depth + 1 → IfOk result (λ r. r.height ≤ depth + 1) }
 {
     let mut list = switch_nodes::only_span(alloc, first)?;
     let mut top = height;
@@ -122,7 +159,11 @@ fn items_from<'a>(
         if top > u16::from(depth) {
             return Err(discard_spans(list, Stop::Deep(behind.len())));
         }
-        let (s, n, after) = match span(alloc, Mode::Free, behind, depth) {
+        let Read {
+            tree: s,
+            height: n,
+            rest: after,
+        } = match span(alloc, Mode::Free, behind, depth) {
             Ok(read) => read,
             Err(error) => return Err(discard_spans(list, error)),
         };
@@ -130,5 +171,9 @@ fn items_from<'a>(
         top = top.max(n);
         rest = after;
     }
-    Ok((list, top, rest))
+    Ok(Read {
+        tree: list,
+        height: top,
+        rest,
+    })
 }

@@ -12,7 +12,7 @@ ghost use Rattle.odc_lookahead.specs.StatementForms.{statement_form};
 ghost use Rattle.odc_lookahead.specs.Statements.{LabelledRead, labelled_part};
 ghost use Rattle.odc_lookahead.specs.StatementSets.{continues_statement, continues_simple, EndsSimple};
 
-use crate::block::{Braced, braces, stands_at};
+use crate::block::{braces, stands_at};
 use crate::conditional::if_statement;
 use crate::declaration::declaration;
 use crate::exprs::exprs;
@@ -23,6 +23,7 @@ use crate::switches::switch_statement;
 use crate::types::ty;
 use odc_lookahead::name_lists::names_end;
 use odc_lookahead::operators::goes_on;
+use odc_lookahead::read::{Closed, Read};
 use odc_lookahead::statement_form::{StatementForm, statement_form};
 use odc_lookahead::stop::Stop;
 use odc_lookahead::tokens::{first, same_kind, strip};
@@ -30,19 +31,14 @@ use odc_nodes::{nodes, stmt_nodes};
 use odc_syntax::grammar::{Mode, Use};
 use odc_syntax::token::{Token, TokenKind};
 use odc_syntax::tree::{ExprKind, Stmt, StmtKind};
-use odc_tree::discard::discard_type;
 use std::alloc::Global;
 
 /// A statement.
 #[cycle(parser)]
-pub fn statement<'a>(
-    alloc: Global,
-    tokens: &'a [Token],
-    depth: u8,
-) -> Result<(Stmt, u16, &'a [Token]), Stop>
+pub fn statement<'a>(alloc: Global, tokens: &'a [Token], depth: u8) -> Result<Read<'a, Stmt>, Stop>
     ensures exact { Exact (one g.statement) continues_statement depth tokens.now (seen stmt result) }
-    ensures shorter { IfOk result (λ r. length r.2.now < length tokens.now) }
-    ensures low { IfOk result (λ r. r.1 ≤ depth + 1) }
+    ensures shorter { IfOk result (λ r. length r.rest.now < length tokens.now) }
+    ensures low { IfOk result (λ r. r.height ≤ depth + 1) }
 {
     let (token, behind) = match first(tokens) {
         Some(found) => found,
@@ -69,17 +65,27 @@ fn named<'a>(
     behind: &'a [Token],
     tokens: &'a [Token],
     depth: u8,
-) -> Result<(Stmt, u16, &'a [Token]), Stop>
+) -> Result<Read<'a, Stmt>, Stop>
     ensures exact { tokens.now ≡ name ∷ behind.now → name.kind ≡ kind.Name → Exact (one g.statement) continues_statement depth tokens.now (seen stmt result) }
-    ensures shorter { tokens.now ≡ name ∷ behind.now → IfOk result (λ r. length r.2.now < length tokens.now) }
-    ensures low { IfOk result (λ r. r.1 ≤ depth + 1) }
+    ensures shorter { tokens.now ≡ name ∷ behind.now → IfOk result (λ r. length r.rest.now < length tokens.now) }
+    ensures low { IfOk result (λ r. r.height ≤ depth + 1) }
 {
     if depth == 0 {
         return Err(Stop::Deep(behind.len()));
     }
     if let Some((mark, rest)) = label(tokens) {
         return match labelled(alloc, Some(mark), rest, depth - 1) {
-            Ok((s, height, after)) => Ok((s, height + 1, after)),
+            Ok(
+                Read {
+                    tree: s,
+                    height,
+                    rest: after,
+                },
+            ) => Ok(Read {
+                tree: s,
+                height: height + 1,
+                rest: after,
+            }),
             Err(error) => Err(error),
         };
     }
@@ -88,7 +94,17 @@ fn named<'a>(
     }
     match names_end(tokens) {
         Ok(_rest) => match declaration(alloc, Mode::Free, tokens, depth - 1) {
-            Ok((d, height, after)) => Ok((stmt_nodes::declare(alloc, d)?, height + 1, after)),
+            Ok(
+                Read {
+                    tree: d,
+                    height,
+                    rest: after,
+                },
+            ) => Ok(Read {
+                tree: stmt_nodes::declare(alloc, d)?,
+                height: height + 1,
+                rest: after,
+            }),
             Err(error) => Err(error),
         },
         Err(_rest) => simple(alloc, Mode::Start, tokens, depth),
@@ -98,10 +114,10 @@ fn named<'a>(
 /// A name that begins a statement where one level is left: it may be a label, which it is not here, and all
 /// else is too deep.
 #[cycle(parser)]
-fn last_level(alloc: Global, name: Token, behind: &[Token]) -> Result<(Stmt, u16, &[Token]), Stop>
+fn last_level(alloc: Global, name: Token, behind: &[Token]) -> Result<Read<'_, Stmt>, Stop>
     ensures exact { name.kind ≡ kind.Name → NotLabelled (name ∷ behind.now) → Exact (one g.statement) continues_statement 1 (name ∷ behind.now) (seen stmt result) }
-    ensures shorter { IfOk result (λ r. length r.2.now ≤ length behind.now) }
-    ensures low { IfOk result (λ r. r.1 ≤ 2) }
+    ensures shorter { IfOk result (λ r. length r.rest.now ≤ length behind.now) }
+    ensures low { IfOk result (λ r. r.height ≤ 2) }
 {
     if let Some((colon, rest)) = strip(behind, TokenKind::Colon) {
         return Err(declared_too_deep(alloc, name, colon, rest));
@@ -111,7 +127,11 @@ fn last_level(alloc: Global, name: Token, behind: &[Token]) -> Result<(Stmt, u16
         None => {
             let e = nodes::leaf(alloc, name.at, ExprKind::Name(name))?;
             let list = stmt_nodes::only(alloc, e)?;
-            Ok((stmt_nodes::eval(alloc, name.at, list)?, 2, behind))
+            Ok(Read {
+                tree: stmt_nodes::eval(alloc, name.at, list)?,
+                height: 2,
+                rest: behind,
+            })
         }
     }
 }
@@ -129,7 +149,7 @@ fn declared_too_deep(alloc: Global, name: Token, colon: Token, tokens: &[Token])
         return Stop::Deep(rest.len());
     }
     match ty(alloc, Use::Plain, tokens, 0) {
-        Ok((t, _height, _rest)) => discard_type(t, Stop::Memory),
+        Ok(_read) => unreachable!(),
         Err(error) => error,
     }
 }
@@ -163,16 +183,26 @@ fn bare<'a>(
     behind: &'a [Token],
     tokens: &'a [Token],
     depth: u8,
-) -> Result<(Stmt, u16, &'a [Token]), Stop>
+) -> Result<Read<'a, Stmt>, Stop>
     ensures exact { tokens.now ≡ token ∷ behind.now → statement_form token ≡ forms.Labelled → Exact (one g.statement) continues_statement depth tokens.now (seen stmt result) }
-    ensures shorter { IfOk result (λ r. length r.2.now < length tokens.now) }
-    ensures low { IfOk result (λ r. r.1 ≤ depth + 1) }
+    ensures shorter { IfOk result (λ r. length r.rest.now < length tokens.now) }
+    ensures low { IfOk result (λ r. r.height ≤ depth + 1) }
 {
     if depth == 0 {
         return Err(Stop::Deep(behind.len()));
     }
     match labelled(alloc, None, tokens, depth - 1) {
-        Ok((s, height, after)) => Ok((s, height + 1, after)),
+        Ok(
+            Read {
+                tree: s,
+                height,
+                rest: after,
+            },
+        ) => Ok(Read {
+            tree: s,
+            height: height + 1,
+            rest: after,
+        }),
         Err(error) => Err(error),
     }
 }
@@ -184,16 +214,26 @@ fn defer<'a>(
     token: Token,
     behind: &'a [Token],
     depth: u8,
-) -> Result<(Stmt, u16, &'a [Token]), Stop>
+) -> Result<Read<'a, Stmt>, Stop>
     ensures exact { statement_form token ≡ forms.Defer → Exact (one g.statement) continues_statement depth (token ∷ behind.now) (seen stmt result) }
-    ensures shorter { IfOk result (λ r. length r.2.now ≤ length behind.now) }
-    ensures low { IfOk result (λ r. r.1 ≤ depth + 1) }
+    ensures shorter { IfOk result (λ r. length r.rest.now ≤ length behind.now) }
+    ensures low { IfOk result (λ r. r.height ≤ depth + 1) }
 {
     if depth == 0 {
         return Err(Stop::Deep(behind.len()));
     }
     match statement(alloc, behind, depth - 1) {
-        Ok((s, height, after)) => Ok((stmt_nodes::defer(alloc, token.at, s)?, height + 1, after)),
+        Ok(
+            Read {
+                tree: s,
+                height,
+                rest: after,
+            },
+        ) => Ok(Read {
+            tree: stmt_nodes::defer(alloc, token.at, s)?,
+            height: height + 1,
+            rest: after,
+        }),
         Err(error) => Err(error),
     }
 }
@@ -205,26 +245,36 @@ fn returns<'a>(
     token: Token,
     behind: &'a [Token],
     depth: u8,
-) -> Result<(Stmt, u16, &'a [Token]), Stop>
+) -> Result<Read<'a, Stmt>, Stop>
     ensures exact { statement_form token ≡ forms.Return → Exact (one g.statement) continues_statement depth (token ∷ behind.now) (seen stmt result) }
-    ensures shorter { IfOk result (λ r. length r.2.now ≤ length behind.now) }
-    ensures low { IfOk result (λ r. r.1 ≤ depth + 1) }
+    ensures shorter { IfOk result (λ r. length r.rest.now ≤ length behind.now) }
+    ensures low { IfOk result (λ r. r.height ≤ depth + 1) }
 {
     if depth == 0 {
         return Err(Stop::Deep(behind.len()));
     }
     match exprs(alloc, Mode::Free, behind, depth - 1) {
-        Ok((values, height, after)) => {
-            Ok((
-                stmt_nodes::returns(alloc, token.at, values)?,
-                height + 1,
-                after,
-            ))
+        Ok(
+            Read {
+                tree: values,
+                height,
+                rest: after,
+            },
+        ) => {
+            Ok(Read {
+                tree: stmt_nodes::returns(alloc, token.at, values)?,
+                height: height + 1,
+                rest: after,
+            })
         }
         Err(error) => {
             if stands_at(error, behind.len()) {
                 let nothing = Vec::new(alloc);
-                Ok((stmt_nodes::returns(alloc, token.at, nothing)?, 1, behind))
+                Ok(Read {
+                    tree: stmt_nodes::returns(alloc, token.at, nothing)?,
+                    height: 1,
+                    rest: behind,
+                })
             } else {
                 Err(error)
             }
@@ -233,15 +283,10 @@ fn returns<'a>(
 }
 
 /// `break`, with a label or without.
-fn breaks(
-    alloc: Global,
-    token: Token,
-    behind: &[Token],
-    depth: u8,
-) -> Result<(Stmt, u16, &[Token]), Stop>
+fn breaks(alloc: Global, token: Token, behind: &[Token], depth: u8) -> Result<Read<'_, Stmt>, Stop>
     ensures exact { statement_form token ≡ forms.Break → Exact (one g.statement) continues_statement depth (token ∷ behind.now) (seen stmt result) }
-    ensures shorter { IfOk result (λ r. length r.2.now ≤ length behind.now) }
-    ensures low { IfOk result (λ r. r.1 ≤ depth + 1) }
+    ensures shorter { IfOk result (λ r. length r.rest.now ≤ length behind.now) }
+    ensures low { IfOk result (λ r. r.height ≤ depth + 1) }
 {
     if depth == 0 {
         return Err(Stop::Deep(behind.len()));
@@ -249,13 +294,17 @@ fn breaks(
     match strip(behind, TokenKind::Name) {
         Some((name, rest)) => {
             let s = stmt_nodes::leaf(alloc, token.at, StmtKind::Break(Some(name)))?;
-            Ok((s, 1, rest))
+            Ok(Read {
+                tree: s,
+                height: 1,
+                rest,
+            })
         }
-        None => Ok((
-            stmt_nodes::leaf(alloc, token.at, StmtKind::Break(None))?,
-            1,
-            behind,
-        )),
+        None => Ok(Read {
+            tree: stmt_nodes::leaf(alloc, token.at, StmtKind::Break(None))?,
+            height: 1,
+            rest: behind,
+        }),
     }
 }
 
@@ -265,10 +314,10 @@ fn continues(
     token: Token,
     behind: &[Token],
     depth: u8,
-) -> Result<(Stmt, u16, &[Token]), Stop>
+) -> Result<Read<'_, Stmt>, Stop>
     ensures exact { statement_form token ≡ forms.Continue → Exact (one g.statement) continues_statement depth (token ∷ behind.now) (seen stmt result) }
-    ensures shorter { IfOk result (λ r. length r.2.now ≤ length behind.now) }
-    ensures low { IfOk result (λ r. r.1 ≤ depth + 1) }
+    ensures shorter { IfOk result (λ r. length r.rest.now ≤ length behind.now) }
+    ensures low { IfOk result (λ r. r.height ≤ depth + 1) }
 {
     if depth == 0 {
         return Err(Stop::Deep(behind.len()));
@@ -276,13 +325,17 @@ fn continues(
     match strip(behind, TokenKind::Name) {
         Some((name, rest)) => {
             let s = stmt_nodes::leaf(alloc, token.at, StmtKind::Continue(Some(name)))?;
-            Ok((s, 1, rest))
+            Ok(Read {
+                tree: s,
+                height: 1,
+                rest,
+            })
         }
-        None => Ok((
-            stmt_nodes::leaf(alloc, token.at, StmtKind::Continue(None))?,
-            1,
-            behind,
-        )),
+        None => Ok(Read {
+            tree: stmt_nodes::leaf(alloc, token.at, StmtKind::Continue(None))?,
+            height: 1,
+            rest: behind,
+        }),
     }
 }
 
@@ -292,19 +345,19 @@ fn fallthrough(
     token: Token,
     behind: &[Token],
     depth: u8,
-) -> Result<(Stmt, u16, &[Token]), Stop>
+) -> Result<Read<'_, Stmt>, Stop>
     ensures exact { statement_form token ≡ forms.Fallthrough → Exact (one g.statement) continues_statement depth (token ∷ behind.now) (seen stmt result) }
-    ensures shorter { IfOk result (λ r. length r.2.now ≤ length behind.now) }
-    ensures low { IfOk result (λ r. r.1 ≤ depth + 1) }
+    ensures shorter { IfOk result (λ r. length r.rest.now ≤ length behind.now) }
+    ensures low { IfOk result (λ r. r.height ≤ depth + 1) }
 {
     if depth == 0 {
         return Err(Stop::Deep(behind.len()));
     }
-    Ok((
-        stmt_nodes::leaf(alloc, token.at, StmtKind::Fallthrough)?,
-        1,
-        behind,
-    ))
+    Ok(Read {
+        tree: stmt_nodes::leaf(alloc, token.at, StmtKind::Fallthrough)?,
+        height: 1,
+        rest: behind,
+    })
 }
 
 /// A block, a loop or a switch, as a statement with this label, whose parts may have this depth.
@@ -314,21 +367,30 @@ fn labelled<'a>(
     label: Option<Token>,
     tokens: &'a [Token],
     depth: u8,
-) -> Result<(Stmt, u16, &'a [Token]), Stop>
-    ensures read { IfOk result (λ r. LabelledRead label depth tokens.now (stmt r.0) r.1 r.2.now) }
+) -> Result<Read<'a, Stmt>, Stop>
+    ensures read { IfOk result (λ r. LabelledRead label depth tokens.now (stmt r.tree) r.height r.rest.now) }
     ensures refused { IfErr result (λ e. Exact (one labelled_part) continues_statement depth tokens.now (refused e)) }
-    ensures shorter { IfOk result (λ r. length r.2.now < length tokens.now) }
-    ensures low { IfOk result (λ r. r.1 ≤ depth + 1) }
+    ensures shorter { IfOk result (λ r. length r.rest.now < length tokens.now) }
+    ensures low { IfOk result (λ r. r.height ≤ depth + 1) }
 {
     if let Some((open, inner)) = strip(tokens, TokenKind::OpenBrace) {
         return match braces(alloc, inner, depth) {
-            Ok((body, height, rest)) => {
-                let Braced { stmts, close: _ } = body;
-                Ok((
-                    stmt_nodes::block(alloc, label, open.at, stmts)?,
+            Ok(
+                Read {
+                    tree: body,
                     height,
                     rest,
-                ))
+                },
+            ) => {
+                let Closed {
+                    part: stmts,
+                    close: _,
+                } = body;
+                Ok(Read {
+                    tree: stmt_nodes::block(alloc, label, open.at, stmts)?,
+                    height,
+                    rest,
+                })
             }
             Err(error) => Err(error),
         };

@@ -25,6 +25,7 @@ use crate::run_bounds::run_over;
 use crate::runs::{NamesEnd, names_in};
 use crate::simple::{nothing_fits, simple, simple_from};
 use crate::statement::goes_on_simple;
+use odc_lookahead::read::Read;
 use odc_lookahead::stop::Stop;
 use odc_lookahead::tokens::{expect, first, same_kind, strip, within};
 use odc_nodes::{nodes, stmt_nodes, switch_nodes};
@@ -50,17 +51,21 @@ pub fn switch_statement<'a>(
     label: Option<Token>,
     tokens: &'a [Token],
     depth: u8,
-) -> Result<(Stmt, u16, &'a [Token]), Stop>
-    ensures read { StartsWithout kind.OpenBrace tokens.now → StartsWithout kind.For tokens.now → IfOk result (λ r. LabelledRead label depth tokens.now (stmt r.0) r.1 r.2.now) }
+) -> Result<Read<'a, Stmt>, Stop>
+    ensures read { StartsWithout kind.OpenBrace tokens.now → StartsWithout kind.For tokens.now → IfOk result (λ r. LabelledRead label depth tokens.now (stmt r.tree) r.height r.rest.now) }
     ensures refused { StartsWithout kind.OpenBrace tokens.now → StartsWithout kind.For tokens.now → IfErr result (λ e. Exact (one labelled_part) continues_statement depth tokens.now (refused e)) }
-    ensures shorter { IfOk result (λ r. length r.2.now < length tokens.now) }
-    ensures low { IfOk result (λ r. r.1 ≤ depth + 1) }
+    ensures shorter { IfOk result (λ r. length r.rest.now < length tokens.now) }
+    ensures low { IfOk result (λ r. r.height ≤ depth + 1) }
 {
     let (at, word, behind) = match switch_word(tokens) {
         Ok(found) => found,
         Err(error) => return Err(error),
     };
-    let (head, n, rest) = match before_cases(alloc, behind, depth) {
+    let Read {
+        tree: head,
+        height: n,
+        rest,
+    } = match before_cases(alloc, behind, depth) {
         Ok(read) => read,
         Err(error) => return Err(error),
     };
@@ -68,13 +73,21 @@ pub fn switch_statement<'a>(
         Ok((_open, inner)) => inner,
         Err(error) => return Err(discard_head(head, error)),
     };
-    let (list, m, after) = match cases(alloc, inner, depth) {
+    let Read {
+        tree: list,
+        height: m,
+        rest: after,
+    } = match cases(alloc, inner, depth) {
         Ok(read) => read,
         Err(error) => return Err(discard_head(head, error)),
     };
     let height = n.max(m);
     match expect(after, TokenKind::CloseBrace, within(height, depth)) {
-        Ok((_close, end)) => Ok((switched(alloc, label, at, word, head, list)?, height, end)),
+        Ok((_close, end)) => Ok(Read {
+            tree: switched(alloc, label, at, word, head, list)?,
+            height,
+            rest: end,
+        }),
         Err(error) => Err(discard_head(head, discard_cases(list, error))),
     }
 }
@@ -135,19 +148,30 @@ fn name_in(tokens: &[Token]) -> Option<(Token, Token, &[Token])>
 }
 
 /// What stands between `switch` and its cases, up to them.
+#[inline(never)]
 #[cycle(parser)]
 fn before_cases<'a>(
     alloc: Global,
     tokens: &'a [Token],
     depth: u8,
-) -> Result<(SwitchHead, u16, &'a [Token]), Stop>
+) -> Result<Read<'a, SwitchHead>, Stop>
     ensures exact { Exact switch_head before_cases depth tokens.now (seen head_of result) }
-    ensures shorter { IfOk result (λ r. length r.2.now ≤ length tokens.now) }
-    ensures low { IfOk result (λ r. r.1 ≤ depth + 1) }
+    ensures shorter { IfOk result (λ r. length r.rest.now ≤ length tokens.now) }
+    ensures low { IfOk result (λ r. r.height ≤ depth + 1) }
 {
     if let Some((name, mark, rest)) = name_in(tokens) {
         return match level(alloc, Level::Or, Mode::Header, rest, depth) {
-            Ok((e, n, after)) => Ok((SwitchHead::Type(name, mark, e), n, after)),
+            Ok(
+                Read {
+                    tree: e,
+                    height: n,
+                    rest: after,
+                },
+            ) => Ok(Read {
+                tree: SwitchHead::Type(name, mark, e),
+                height: n,
+                rest: after,
+            }),
             Err(error) => Err(error),
         };
     }
@@ -156,15 +180,31 @@ fn before_cases<'a>(
     }
     match names_in(tokens) {
         NamesEnd::Declared => match declaration(alloc, Mode::Header, tokens, depth) {
-            Ok((d, n, rest)) => closed(alloc, Header::Decl(d), n, rest, depth),
+            Ok(
+                Read {
+                    tree: d,
+                    height: n,
+                    rest,
+                },
+            ) => closed(alloc, Header::Decl(d), n, rest, depth),
             Err(error) => Err(error),
         },
         NamesEnd::Listed => listed(alloc, tokens, depth),
         NamesEnd::Single => match level(alloc, Level::Or, Mode::Header, tokens, depth) {
-            Ok((e, n, rest)) => behind_value(alloc, e, n, rest, depth),
+            Ok(
+                Read {
+                    tree: e,
+                    height: n,
+                    rest,
+                },
+            ) => behind_value(alloc, e, n, rest, depth),
             Err(error) => {
                 if stands_at(error, tokens.len()) {
-                    Ok((nothing(), 0, tokens))
+                    Ok(Read {
+                        tree: nothing(),
+                        height: 0,
+                        rest: tokens,
+                    })
                 } else {
                     Err(error)
                 }
@@ -189,17 +229,21 @@ fn value_alone(e: Expr) -> SwitchHead
 
 /// What stands there where no level is left: a name may still stand before `in`, which does not follow it.
 #[cycle(parser)]
-fn no_level<'a>(alloc: Global, tokens: &'a [Token]) -> Result<(SwitchHead, u16, &'a [Token]), Stop>
+fn no_level<'a>(alloc: Global, tokens: &'a [Token]) -> Result<Read<'a, SwitchHead>, Stop>
     ensures exact { NotTyped tokens.now → Exact switch_head before_cases 0 tokens.now (seen head_of result) }
-    ensures shorter { IfOk result (λ r. length r.2.now ≤ length tokens.now) }
-    ensures low { IfOk result (λ r. r.1 ≤ 1) }
+    ensures shorter { IfOk result (λ r. length r.rest.now ≤ length tokens.now) }
+    ensures low { IfOk result (λ r. r.height ≤ 1) }
 {
     let (name, behind) = match strip(tokens, TokenKind::Name) {
         Some(found) => found,
         None => {
             let stop = nothing_fits(alloc, Mode::Header, tokens);
             if stands_at(stop, tokens.len()) {
-                return Ok((nothing(), 0, tokens));
+                return Ok(Read {
+                    tree: nothing(),
+                    height: 0,
+                    rest: tokens,
+                });
             }
             return Err(stop);
         }
@@ -208,7 +252,11 @@ fn no_level<'a>(alloc: Global, tokens: &'a [Token]) -> Result<(SwitchHead, u16, 
         Some((_token, rest)) => Err(Stop::Deep(rest.len())),
         None => {
             let e = nodes::leaf(alloc, name.at, ExprKind::Name(name))?;
-            Ok((value_alone(e), 1, behind))
+            Ok(Read {
+                tree: value_alone(e),
+                height: 1,
+                rest: behind,
+            })
         }
     }
 }
@@ -239,20 +287,22 @@ fn goes_on_head(kind: TokenKind) -> bool
 
 /// Several names, behind which nothing is declared any more.
 #[cycle(parser)]
-fn listed<'a>(
-    alloc: Global,
-    tokens: &'a [Token],
-    depth: u8,
-) -> Result<(SwitchHead, u16, &'a [Token]), Stop>
+fn listed<'a>(alloc: Global, tokens: &'a [Token], depth: u8) -> Result<Read<'a, SwitchHead>, Stop>
     ensures exact { (place : List TokenValue) → 0 < depth → NotTyped tokens.now → Listed tokens.now place → Exact switch_head before_cases depth tokens.now (seen head_of result) }
-    ensures shorter { IfOk result (λ r. length r.2.now ≤ length tokens.now) }
-    ensures low { IfOk result (λ r. r.1 ≤ depth + 1) }
+    ensures shorter { IfOk result (λ r. length r.rest.now ≤ length tokens.now) }
+    ensures low { IfOk result (λ r. r.height ≤ depth + 1) }
 {
     if depth <= 1 {
         return Err(run_over(alloc, tokens));
     }
     match simple(alloc, Mode::Header, tokens, depth) {
-        Ok((s, n, rest)) => closed(alloc, Header::Simple(s), n, rest, depth),
+        Ok(
+            Read {
+                tree: s,
+                height: n,
+                rest,
+            },
+        ) => closed(alloc, Header::Simple(s), n, rest, depth),
         Err(error) => Err(error),
     }
 }
@@ -265,15 +315,19 @@ fn behind_value<'a>(
     height: u16,
     tokens: &'a [Token],
     depth: u8,
-) -> Result<(SwitchHead, u16, &'a [Token]), Stop>
+) -> Result<Read<'a, SwitchHead>, Stop>
     ensures exact { (ts place : List TokenValue) → NotTyped ts → length tokens.now < length ts → HeadExpression depth ts place (expr e) height tokens.now
         → Exact switch_head before_cases depth ts (seen head_of result) }
-    ensures shorter { IfOk result (λ r. length r.2.now ≤ length tokens.now) }
-    ensures low { height ≤ depth + 1 → IfOk result (λ r. r.1 ≤ depth + 1) }
+    ensures shorter { IfOk result (λ r. length r.rest.now ≤ length tokens.now) }
+    ensures low { height ≤ depth + 1 → IfOk result (λ r. r.height ≤ depth + 1) }
 {
     let (token, behind) = match clause_end(tokens) {
         Some(found) => found,
-        None => return Ok((value_alone(e), height, tokens)),
+        None => return Ok(Read {
+            tree: value_alone(e),
+            height,
+            rest: tokens,
+        }),
     };
     if height >= u16::from(depth) {
         return Err(discard_expr(e, Stop::Deep(behind.len())));
@@ -283,7 +337,13 @@ fn behind_value<'a>(
         return value(alloc, header, height + 1, behind, depth);
     }
     match simple_from(alloc, Mode::Header, e, height, tokens, depth - 1) {
-        Ok((s, n, rest)) => closed(alloc, Header::Simple(s), n, rest, depth),
+        Ok(
+            Read {
+                tree: s,
+                height: n,
+                rest,
+            },
+        ) => closed(alloc, Header::Simple(s), n, rest, depth),
         Err(error) => Err(error),
     }
 }
@@ -296,10 +356,10 @@ fn closed<'a>(
     height: u16,
     tokens: &'a [Token],
     depth: u8,
-) -> Result<(SwitchHead, u16, &'a [Token]), Stop>
+) -> Result<Read<'a, SwitchHead>, Stop>
     ensures exact { (ts : List TokenValue) → NotTyped ts → ClosedFrom depth ts (header_of header) height tokens.now → Exact switch_head before_cases depth ts (seen head_of result) }
-    ensures shorter { IfOk result (λ r. length r.2.now ≤ length tokens.now) }
-    ensures low { IfOk result (λ r. r.1 ≤ depth + 1) }
+    ensures shorter { IfOk result (λ r. length r.rest.now ≤ length tokens.now) }
+    ensures low { IfOk result (λ r. r.height ≤ depth + 1) }
 {
     match expect(tokens, TokenKind::Semicolon, within(height, depth)) {
         Ok((_semicolon, rest)) => value(alloc, header, height, rest, depth),
@@ -315,16 +375,30 @@ fn value<'a>(
     height: u16,
     tokens: &'a [Token],
     depth: u8,
-) -> Result<(SwitchHead, u16, &'a [Token]), Stop>
+) -> Result<Read<'a, SwitchHead>, Stop>
     ensures exact { (ts : List TokenValue) → NotTyped ts → ConditionFrom depth ts (header_of header) height tokens.now → Exact switch_head before_cases depth ts (seen head_of result) }
-    ensures shorter { IfOk result (λ r. length r.2.now ≤ length tokens.now) }
-    ensures low { height ≤ depth → IfOk result (λ r. r.1 ≤ depth + 1) }
+    ensures shorter { IfOk result (λ r. length r.rest.now ≤ length tokens.now) }
+    ensures low { height ≤ depth → IfOk result (λ r. r.height ≤ depth + 1) }
 {
     match level(alloc, Level::Or, Mode::Header, tokens, depth) {
-        Ok((e, n, rest)) => Ok((SwitchHead::Value(header, Some(e)), height.max(n), rest)),
+        Ok(
+            Read {
+                tree: e,
+                height: n,
+                rest,
+            },
+        ) => Ok(Read {
+            tree: SwitchHead::Value(header, Some(e)),
+            height: height.max(n),
+            rest,
+        }),
         Err(error) => {
             if stands_at(error, tokens.len()) {
-                Ok((SwitchHead::Value(header, None), height, tokens))
+                Ok(Read {
+                    tree: SwitchHead::Value(header, None),
+                    height,
+                    rest: tokens,
+                })
             } else {
                 Err(discard_header(header, error))
             }
@@ -333,6 +407,7 @@ fn value<'a>(
 }
 
 /// `switch`, of its parts.
+#[inline(never)]
 fn switched(
     alloc: Global,
     label: Option<Token>,

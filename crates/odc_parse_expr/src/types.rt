@@ -15,6 +15,7 @@ use crate::arrays::array;
 use crate::fields::{enum_type, struct_type, union_type};
 use crate::signatures::signature;
 use odc_lookahead::end::{End, at_end, ends_operand, inside};
+use odc_lookahead::read::{Read, ReadTo};
 use odc_lookahead::shape::Shape;
 use odc_lookahead::stop::Stop;
 use odc_lookahead::tokens::{expect, first, strip, within};
@@ -33,13 +34,25 @@ pub fn ty<'a>(
     used: Use,
     tokens: &'a [Token],
     depth: u8,
-) -> Result<(Type, u16, &'a [Token]), Stop>
+) -> Result<Read<'a, Type>, Stop>
     ensures exact { Exact (one (g.type_ (g.inside used))) nothing_continues depth tokens.now (seen type result) }
-    ensures shorter { IfOk result (λ r. length r.2.now < length tokens.now) }
-    ensures low { IfOk result (λ r. r.1 ≤ depth) }
+    ensures shorter { IfOk result (λ r. length r.rest.now < length tokens.now) }
+    ensures low { IfOk result (λ r. r.height ≤ depth) }
+    ensures fits { IfOk result (λ r. 0 < depth) }
 {
     match type_to(alloc, inside(used), tokens, depth) {
-        Ok((t, height, rest, _end)) => Ok((t, height, rest)),
+        Ok(
+            ReadTo {
+                tree: t,
+                height,
+                rest,
+                end: _end,
+            },
+        ) => Ok(Read {
+            tree: t,
+            height,
+            rest,
+        }),
         Err(error) => Err(error),
     }
 }
@@ -51,10 +64,11 @@ pub fn type_to<'a>(
     used: Use,
     tokens: &'a [Token],
     depth: u8,
-) -> Result<(Type, u16, &'a [Token], End), Stop>
+) -> Result<ReadTo<'a, Type>, Stop>
     ensures exact { ExactAs used (one (g.type_ used)) nothing_continues depth tokens.now (seen_to type result) }
-    ensures shorter { IfOk result (λ r. length r.2.now < length tokens.now) }
-    ensures low { IfOk result (λ r. r.1 ≤ depth) }
+    ensures shorter { IfOk result (λ r. length r.rest.now < length tokens.now) }
+    ensures low { IfOk result (λ r. r.height ≤ depth) }
+    ensures fits { IfOk result (λ r. 0 < depth) }
 {
     let (token, behind) = match first(tokens) {
         Some(found) => found,
@@ -80,49 +94,61 @@ fn own<'a>(
     token: Token,
     behind: &'a [Token],
     depth: u8,
-) -> Result<(Type, u16, &'a [Token], End), Stop>
+) -> Result<ReadTo<'a, Type>, Stop>
     ensures exact { own_form token.kind ≡ Some form → ExactAs used (one (g.type_ used)) nothing_continues (suc depth) (token ∷ behind.now) (seen_to type result) }
-    ensures shorter { IfOk result (λ r. length r.2.now ≤ length behind.now) }
-    ensures low { IfOk result (λ r. r.1 ≤ depth + 1) }
+    ensures shorter { IfOk result (λ r. length r.rest.now ≤ length behind.now) }
+    ensures low { IfOk result (λ r. r.height ≤ depth + 1) }
 {
     match form {
         OwnForm::Name => name(alloc, used, token, behind),
         OwnForm::Group => group(alloc, used, token, behind, depth),
         OwnForm::Proc => match signature(alloc, used, token, behind, depth) {
-            Ok((s, height, rest, end)) => Ok((
-                type_nodes::procedure(alloc, token.at, s)?,
-                height + 1,
+            Ok(
+                ReadTo {
+                    tree: s,
+                    height,
+                    rest,
+                    end,
+                },
+            ) => Ok(ReadTo {
+                tree: type_nodes::procedure(alloc, token.at, s)?,
+                height: height + 1,
                 rest,
                 end,
-            )),
+            }),
             Err(error) => Err(error),
         },
     }
 }
 
 /// A name, or one of another package.
-fn name(
-    alloc: Global,
-    used: Use,
-    token: Token,
-    behind: &[Token],
-) -> Result<(Type, u16, &[Token], End), Stop>
+fn name(alloc: Global, used: Use, token: Token, behind: &[Token]) -> Result<ReadTo<'_, Type>, Stop>
     ensures exact { token.kind ≡ kind.Name → (b : ℕ) → ExactAs used (one (g.type_ used)) nothing_continues (suc b) (token ∷ behind.now) (seen_to type result) }
-    ensures shorter { IfOk result (λ r. length r.2.now ≤ length behind.now) }
-    ensures low { IfOk result (λ r. r.1 ≤ 1) }
+    ensures shorter { IfOk result (λ r. length r.rest.now ≤ length behind.now) }
+    ensures low { IfOk result (λ r. r.height ≤ 1) }
 {
     match strip(behind, TokenKind::Dot) {
-        None => Ok((type_nodes::named(alloc, token)?, 1, behind, End::Sure)),
+        None => Ok(ReadTo {
+            tree: type_nodes::named(alloc, token)?,
+            height: 1,
+            rest: behind,
+            end: End::Sure,
+        }),
         Some((_dot, rest)) => match strip(rest, TokenKind::Name) {
-            Some((second, after)) => Ok((
-                type_nodes::member(alloc, token, second)?,
-                1,
-                after,
-                End::Sure,
-            )),
+            Some((second, after)) => Ok(ReadTo {
+                tree: type_nodes::member(alloc, token, second)?,
+                height: 1,
+                rest: after,
+                end: End::Sure,
+            }),
             None => {
                 if ends_operand(used) {
-                    Ok((type_nodes::named(alloc, token)?, 1, behind, End::BeforeDot))
+                    Ok(ReadTo {
+                        tree: type_nodes::named(alloc, token)?,
+                        height: 1,
+                        rest: behind,
+                        end: End::BeforeDot,
+                    })
                 } else {
                     Err(Stop::Syntax(rest.len()))
                 }
@@ -139,17 +165,26 @@ fn group<'a>(
     paren: Token,
     behind: &'a [Token],
     depth: u8,
-) -> Result<(Type, u16, &'a [Token], End), Stop>
+) -> Result<ReadTo<'a, Type>, Stop>
     ensures exact { paren.kind ≡ kind.OpenParen → ExactAs used (one (g.type_ used)) nothing_continues (suc depth) (paren ∷ behind.now) (seen_to type result) }
-    ensures shorter { IfOk result (λ r. length r.2.now ≤ length behind.now) }
-    ensures low { IfOk result (λ r. r.1 ≤ depth + 1) }
+    ensures shorter { IfOk result (λ r. length r.rest.now ≤ length behind.now) }
+    ensures low { IfOk result (λ r. r.height ≤ depth + 1) }
 {
-    let (t, height, after) = match ty(alloc, used, behind, depth) {
+    let Read {
+        tree: t,
+        height,
+        rest: after,
+    } = match ty(alloc, used, behind, depth) {
         Ok(read) => read,
         Err(error) => return Err(error),
     };
     match expect(after, TokenKind::CloseParen, within(height, depth)) {
-        Ok((_close, rest)) => Ok((t, height + 1, rest, End::Sure)),
+        Ok((_close, rest)) => Ok(ReadTo {
+            tree: t,
+            height: height + 1,
+            rest,
+            end: End::Sure,
+        }),
         Err(error) => Err(discard_type(t, error)),
     }
 }
@@ -161,10 +196,11 @@ pub fn constructed<'a>(
     used: Use,
     tokens: &'a [Token],
     depth: u8,
-) -> Result<(Type, u16, &'a [Token], End), Stop>
+) -> Result<ReadTo<'a, Type>, Stop>
     ensures exact { ExactAs used (one (g.constructed used)) nothing_continues depth tokens.now (seen_to type result) }
-    ensures shorter { IfOk result (λ r. length r.2.now < length tokens.now) }
-    ensures low { IfOk result (λ r. r.1 ≤ depth) }
+    ensures shorter { IfOk result (λ r. length r.rest.now < length tokens.now) }
+    ensures low { IfOk result (λ r. r.height ≤ depth) }
+    ensures fits { IfOk result (λ r. 0 < depth) }
 {
     let (token, behind) = match first(tokens) {
         Some(found) => found,
@@ -189,10 +225,10 @@ fn build<'a>(
     token: Token,
     behind: &'a [Token],
     depth: u8,
-) -> Result<(Type, u16, &'a [Token], End), Stop>
+) -> Result<ReadTo<'a, Type>, Stop>
     ensures exact { built_form used token ≡ Some form → ExactAs used (one (g.constructed used)) nothing_continues (suc depth) (token ∷ behind.now) (seen_to type result) }
-    ensures shorter { IfOk result (λ r. length r.2.now ≤ length behind.now) }
-    ensures low { IfOk result (λ r. r.1 ≤ depth + 1) }
+    ensures shorter { IfOk result (λ r. length r.rest.now ≤ length behind.now) }
+    ensures low { IfOk result (λ r. r.height ≤ depth + 1) }
 {
     match form {
         BuiltForm::Pointer => pointer(alloc, used, token, behind, depth),
@@ -215,18 +251,25 @@ fn pointer<'a>(
     token: Token,
     behind: &'a [Token],
     depth: u8,
-) -> Result<(Type, u16, &'a [Token], End), Stop>
+) -> Result<ReadTo<'a, Type>, Stop>
     ensures exact { token.kind ≡ kind.Caret → ExactAs used (one (g.constructed used)) nothing_continues (suc depth) (token ∷ behind.now) (seen_to type result) }
-    ensures shorter { IfOk result (λ r. length r.2.now ≤ length behind.now) }
-    ensures low { IfOk result (λ r. r.1 ≤ depth + 1) }
+    ensures shorter { IfOk result (λ r. length r.rest.now ≤ length behind.now) }
+    ensures low { IfOk result (λ r. r.height ≤ depth + 1) }
 {
     match type_to(alloc, at_end(used), behind, depth) {
-        Ok((t, height, rest, end)) => Ok((
-            type_nodes::pointer(alloc, token.at, t)?,
-            height + 1,
+        Ok(
+            ReadTo {
+                tree: t,
+                height,
+                rest,
+                end,
+            },
+        ) => Ok(ReadTo {
+            tree: type_nodes::pointer(alloc, token.at, t)?,
+            height: height + 1,
             rest,
             end,
-        )),
+        }),
         Err(error) => Err(error),
     }
 }
@@ -239,18 +282,25 @@ fn distinct<'a>(
     token: Token,
     behind: &'a [Token],
     depth: u8,
-) -> Result<(Type, u16, &'a [Token], End), Stop>
+) -> Result<ReadTo<'a, Type>, Stop>
     ensures exact { token.kind ≡ kind.Distinct → ExactAs used (one (g.constructed used)) nothing_continues (suc depth) (token ∷ behind.now) (seen_to type result) }
-    ensures shorter { IfOk result (λ r. length r.2.now ≤ length behind.now) }
-    ensures low { IfOk result (λ r. r.1 ≤ depth + 1) }
+    ensures shorter { IfOk result (λ r. length r.rest.now ≤ length behind.now) }
+    ensures low { IfOk result (λ r. r.height ≤ depth + 1) }
 {
     match type_to(alloc, at_end(used), behind, depth) {
-        Ok((t, height, rest, end)) => Ok((
-            type_nodes::distinct(alloc, token.at, t)?,
-            height + 1,
+        Ok(
+            ReadTo {
+                tree: t,
+                height,
+                rest,
+                end,
+            },
+        ) => Ok(ReadTo {
+            tree: type_nodes::distinct(alloc, token.at, t)?,
+            height: height + 1,
             rest,
             end,
-        )),
+        }),
         Err(error) => Err(error),
     }
 }
@@ -261,18 +311,18 @@ fn dollar(
     used: Use,
     token: Token,
     behind: &[Token],
-) -> Result<(Type, u16, &[Token], End), Stop>
+) -> Result<ReadTo<'_, Type>, Stop>
     ensures exact { built_form used token ≡ Some built.Dollar → (b : ℕ) → ExactAs used (one (g.constructed used)) nothing_continues (suc b) (token ∷ behind.now) (seen_to type result) }
-    ensures shorter { IfOk result (λ r. length r.2.now ≤ length behind.now) }
-    ensures low { IfOk result (λ r. r.1 ≤ 1) }
+    ensures shorter { IfOk result (λ r. length r.rest.now ≤ length behind.now) }
+    ensures low { IfOk result (λ r. r.height ≤ 1) }
 {
     match expect(behind, TokenKind::Name, true) {
-        Ok((name, rest)) => Ok((
-            type_nodes::dollar(alloc, token.at, name)?,
-            1,
+        Ok((name, rest)) => Ok(ReadTo {
+            tree: type_nodes::dollar(alloc, token.at, name)?,
+            height: 1,
             rest,
-            End::Sure,
-        )),
+            end: End::Sure,
+        }),
         Err(error) => Err(error),
     }
 }
@@ -285,22 +335,29 @@ fn word_proc<'a>(
     token: Token,
     behind: &'a [Token],
     depth: u8,
-) -> Result<(Type, u16, &'a [Token], End), Stop>
+) -> Result<ReadTo<'a, Type>, Stop>
     ensures exact { built_form used token ≡ Some built.WordProc → ExactAs used (one (g.constructed used)) nothing_continues (suc depth) (token ∷ behind.now) (seen_to type result) }
-    ensures shorter { IfOk result (λ r. length r.2.now ≤ length behind.now) }
-    ensures low { IfOk result (λ r. r.1 ≤ depth + 1) }
+    ensures shorter { IfOk result (λ r. length r.rest.now ≤ length behind.now) }
+    ensures low { IfOk result (λ r. r.height ≤ depth + 1) }
 {
     let (proc, inner) = match expect(behind, TokenKind::Proc, true) {
         Ok(found) => found,
         Err(error) => return Err(error),
     };
     match signature(alloc, used, proc, inner, depth) {
-        Ok((s, height, rest, end)) => Ok((
-            type_nodes::procedure(alloc, token.at, s)?,
-            height + 1,
+        Ok(
+            ReadTo {
+                tree: s,
+                height,
+                rest,
+                end,
+            },
+        ) => Ok(ReadTo {
+            tree: type_nodes::procedure(alloc, token.at, s)?,
+            height: height + 1,
             rest,
             end,
-        )),
+        }),
         Err(error) => Err(error),
     }
 }
@@ -313,10 +370,10 @@ fn soa<'a>(
     token: Token,
     behind: &'a [Token],
     depth: u8,
-) -> Result<(Type, u16, &'a [Token], End), Stop>
+) -> Result<ReadTo<'a, Type>, Stop>
     ensures exact { built_form used token ≡ Some built.Soa → ExactAs used (one (g.constructed used)) nothing_continues (suc depth) (token ∷ behind.now) (seen_to type result) }
-    ensures shorter { IfOk result (λ r. length r.2.now ≤ length behind.now) }
-    ensures low { IfOk result (λ r. r.1 ≤ depth + 1) }
+    ensures shorter { IfOk result (λ r. length r.rest.now ≤ length behind.now) }
+    ensures low { IfOk result (λ r. r.height ≤ depth + 1) }
 {
     match expect(behind, TokenKind::OpenBracket, true) {
         Ok((_open, inner)) => array(alloc, used, Shape::Soa, token.at, inner, depth),

@@ -11,6 +11,7 @@ ghost use Rattle.odc_lookahead.specs.Sets.{starts_suffix};
 use crate::postfix::postfix;
 use crate::types::ty;
 use odc_lookahead::operators::later;
+use odc_lookahead::read::Read;
 use odc_lookahead::stop::Stop;
 use odc_lookahead::tokens::{expect, first, within};
 use odc_lookahead::unary::{UnaryForm, unary_form};
@@ -18,7 +19,6 @@ use odc_nodes::nodes;
 use odc_syntax::grammar::{Mode, Use};
 use odc_syntax::token::{Token, TokenKind};
 use odc_syntax::tree::Expr;
-use odc_text::place::Place;
 use odc_tree::discard::discard_type;
 use std::alloc::Global;
 
@@ -29,10 +29,11 @@ pub fn unary<'a>(
     mode: Mode,
     tokens: &'a [Token],
     depth: u8,
-) -> Result<(Expr, u16, &'a [Token]), Stop>
+) -> Result<Read<'a, Expr>, Stop>
     ensures exact { Exact (one (g.unary mode)) (starts_suffix mode) depth tokens.now (seen expr result) }
-    ensures shorter { IfOk result (λ r. length r.2.now < length tokens.now) }
-    ensures low { IfOk result (λ r. r.1 ≤ depth + 1) }
+    ensures shorter { IfOk result (λ r. length r.rest.now < length tokens.now) }
+    ensures low { IfOk result (λ r. r.height ≤ depth + 1) }
+    ensures fits { IfOk result (λ r. 0 < depth) }
 {
     let (token, behind) = match first(tokens) {
         Some(found) => found,
@@ -45,8 +46,18 @@ pub fn unary<'a>(
                 return Err(Stop::Deep(behind.len()));
             }
             match unary(alloc, later(mode), behind, depth - 1) {
-                Ok((e, height, rest)) => {
-                    Ok((nodes::unary(alloc, token.at, op, e)?, height + 1, rest))
+                Ok(
+                    Read {
+                        tree: e,
+                        height,
+                        rest,
+                    },
+                ) => {
+                    Ok(Read {
+                        tree: nodes::unary(alloc, token.at, op, e)?,
+                        height: height + 1,
+                        rest,
+                    })
                 }
                 Err(error) => Err(error),
             }
@@ -61,6 +72,7 @@ pub fn unary<'a>(
 }
 
 /// An operand behind `cast` and a type in parentheses, whose parts may have this depth.
+#[inline(never)]
 #[cycle(parser)]
 fn cast<'a>(
     alloc: Global,
@@ -68,16 +80,20 @@ fn cast<'a>(
     token: Token,
     behind: &'a [Token],
     depth: u8,
-) -> Result<(Expr, u16, &'a [Token]), Stop>
+) -> Result<Read<'a, Expr>, Stop>
     ensures exact { token.kind ≡ kind.Cast → Exact (one (g.unary mode)) (starts_suffix mode) (suc depth) (token ∷ behind.now) (seen expr result) }
-    ensures shorter { IfOk result (λ r. length r.2.now ≤ length behind.now) }
-    ensures low { IfOk result (λ r. r.1 ≤ depth + 2) }
+    ensures shorter { IfOk result (λ r. length r.rest.now ≤ length behind.now) }
+    ensures low { IfOk result (λ r. r.height ≤ depth + 2) }
 {
     let (_open, inner) = match expect(behind, TokenKind::OpenParen, true) {
         Ok(found) => found,
         Err(error) => return Err(error),
     };
-    let (t, height, after) = match ty(alloc, Use::Plain, inner, depth) {
+    let Read {
+        tree: t,
+        height,
+        rest: after,
+    } = match ty(alloc, Use::Plain, inner, depth) {
         Ok(read) => read,
         Err(error) => return Err(error),
     };
@@ -86,7 +102,17 @@ fn cast<'a>(
         Err(error) => return Err(discard_type(t, error)),
     };
     match unary(alloc, later(mode), last, depth) {
-        Ok((e, n, rest)) => Ok((nodes::cast(alloc, token.at, t, e)?, height.max(n) + 1, rest)),
+        Ok(
+            Read {
+                tree: e,
+                height: n,
+                rest,
+            },
+        ) => Ok(Read {
+            tree: nodes::cast(alloc, token.at, t, e)?,
+            height: height.max(n) + 1,
+            rest,
+        }),
         Err(error) => Err(discard_type(t, error)),
     }
 }

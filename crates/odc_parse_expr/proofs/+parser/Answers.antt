@@ -113,7 +113,7 @@ binary::chained-returns-in-Err-clause-exact t c = λ e. operators_refused c.args
 
 pub binary::chained-loop-op-init : goal.binary::chained-loop-op-init
 binary::chained-loop-op-init t c = record {
-  led = λ e. operators_first c.args.of c.args.mode e c.args.depth c.args.tokens.now (expr c.in-Ok.read.0) c.in-Ok.read.1 c.in-Ok.read.2.now c.in-Ok.ensures.exact;
+  led = λ e. operators_first c.args.of c.args.mode e c.args.depth c.args.tokens.now (expr c.in-Ok.read.tree) c.in-Ok.read.height c.in-Ok.read.rest.now c.in-Ok.ensures.exact;
   short = c.in-Ok.ensures.shorter;
   low = c.in-Ok.ensures.low;
 }
@@ -138,7 +138,7 @@ binary::chained-loop-op-preserved t c = record {
   led = λ e.
       operator_more c.args.of c.args.mode (Operators c.args.of c.args.mode) (Operators c.args.of c.args.mode) (operators_chained c.args.of c.args.mode e) (many_clear c.args.of c.args.mode e)
       c.later.result c.args.depth (c.args.depth - 1) c.args.tokens.now (expr c.loop-op.e) c.loop-op.height c.loop-op.rest.now c.in-Some.op c.in-Some.token c.in-Some.behind.now
-      _ c.in-Ok-item.read.1 c.in-Ok-item.read.2.now _ _ c.later.ensures (omega arith) (c.loop-op.invariant.led e) (omega arith)
+      _ c.in-Ok-item.read.height c.in-Ok-item.read.rest.now _ _ c.later.ensures (omega arith) (c.loop-op.invariant.led e) (omega arith)
       (record { is = c.in-Some.ensures.is; op_is = c.in-Some.ensures.op; level_is = c.in-Some.ensures.level }) c.in-Ok-item.ensures.exact c.in-Ok-item.ensures.shorter c.in_ok-e.ensures (omega (arith, c.max-height.ensures));
   short = let longer = ap length c.in-Some.ensures.is in let read = c.in-Ok-item.ensures.shorter in let before = c.loop-op.invariant.short in omega (arith, longer, read, before);
   low = let read = c.in-Ok-item.ensures.low in omega (arith, c.max-height.ensures, read);
@@ -154,24 +154,24 @@ binary::comparison-returns-in-Err-clause-exact t c = comparison_refused c.args.m
 
 pub binary::comparison-returns-in-None-clause-exact : goal.binary::comparison-returns-in-None-clause-exact
 binary::comparison-returns-in-None-clause-exact t c =
-    operator_none Comparison c.args.mode (Comparisons c.args.mode) Never (once_chained c.args.mode) (never_clear c.args.mode) c.args.depth c.args.tokens.now (expr c.in-Ok.read.0) c.in-Ok.read.1 c.in-Ok.read.2.now
-    (comparison_first c.args.mode c.args.depth c.args.tokens.now (expr c.in-Ok.read.0) c.in-Ok.read.1 c.in-Ok.read.2.now c.in-Ok.ensures.exact) c.in-None.ensures.none
+    operator_none Comparison c.args.mode (Comparisons c.args.mode) Never (once_chained c.args.mode) (never_clear c.args.mode) c.args.depth c.args.tokens.now (expr c.in-Ok.read.tree) c.in-Ok.read.height c.in-Ok.read.rest.now
+    (comparison_first c.args.mode c.args.depth c.args.tokens.now (expr c.in-Ok.read.tree) c.in-Ok.read.height c.in-Ok.read.rest.now c.in-Ok.ensures.exact) c.in-None.ensures.none
 
 pub binary::comparison-returns-then-height-from-clause-exact : goal.binary::comparison-returns-then-height-from-clause-exact
 binary::comparison-returns-then-height-from-clause-exact t c =
     because (one (g.chain Comparison c.args.mode)) (continues Comparison c.args.mode) c.args.depth c.args.tokens.now (stop.Deep (length c.in-Some.found.2.now)) c.discard_expr.result c.discard_expr.ensures
-    (operator_deep Comparison c.args.mode (Comparisons c.args.mode) Never (once_chained c.args.mode) (never_clear c.args.mode) c.args.depth c.args.tokens.now (expr c.in-Ok.read.0) c.in-Ok.read.1 c.in-Ok.read.2.now
+    (operator_deep Comparison c.args.mode (Comparisons c.args.mode) Never (once_chained c.args.mode) (never_clear c.args.mode) c.args.depth c.args.tokens.now (expr c.in-Ok.read.tree) c.in-Ok.read.height c.in-Ok.read.rest.now
     c.in-Some.found.0 c.in-Some.found.1 c.in-Some.found.2.now
-    (comparison_first c.args.mode c.args.depth c.args.tokens.now (expr c.in-Ok.read.0) c.in-Ok.read.1 c.in-Ok.read.2.now c.in-Ok.ensures.exact) (omega arith)
+    (comparison_first c.args.mode c.args.depth c.args.tokens.now (expr c.in-Ok.read.tree) c.in-Ok.read.height c.in-Ok.read.rest.now c.in-Ok.ensures.exact) (omega arith)
     (record { is = c.in-Some.ensures.is; op_is = c.in-Some.ensures.op; level_is = c.in-Some.ensures.level }))
 
 pub binary::comparison-returns-in_ok-whole-in-Ok-item-clause-exact : goal.binary::comparison-returns-in_ok-whole-in-Ok-item-clause-exact
 binary::comparison-returns-in_ok-whole-in-Ok-item-clause-exact t c =
-    comparison_done c.args.mode c.args.depth c.args.tokens.now _ _ c.in-Ok-item.after.now
+    comparison_done c.args.mode c.args.depth c.args.tokens.now _ _ c.in-Ok-item.field-0.rest.now
     (operator_more Comparison c.args.mode (Comparisons c.args.mode) Never (once_chained c.args.mode) (never_clear c.args.mode)
-    c.later.result c.args.depth (c.args.depth - 1) c.args.tokens.now (expr c.in-Ok.read.0) c.in-Ok.read.1 c.in-Ok.read.2.now
-    c.in-Some.found.0 c.in-Some.found.1 c.in-Some.found.2.now (expr c.in-Ok-item.right) c.in-Ok-item.n c.in-Ok-item.after.now _ _ c.later.ensures (omega arith)
-    (comparison_first c.args.mode c.args.depth c.args.tokens.now (expr c.in-Ok.read.0) c.in-Ok.read.1 c.in-Ok.read.2.now c.in-Ok.ensures.exact) (omega arith)
+    c.later.result c.args.depth (c.args.depth - 1) c.args.tokens.now (expr c.in-Ok.read.tree) c.in-Ok.read.height c.in-Ok.read.rest.now
+    c.in-Some.found.0 c.in-Some.found.1 c.in-Some.found.2.now (expr c.in-Ok-item.field-0.tree) c.in-Ok-item.field-0.height c.in-Ok-item.field-0.rest.now _ _ c.later.ensures (omega arith)
+    (comparison_first c.args.mode c.args.depth c.args.tokens.now (expr c.in-Ok.read.tree) c.in-Ok.read.height c.in-Ok.read.rest.now c.in-Ok.ensures.exact) (omega arith)
     (record { is = c.in-Some.ensures.is; op_is = c.in-Some.ensures.op; level_is = c.in-Some.ensures.level }) c.in-Ok-item.ensures.exact c.in-Ok-item.ensures.shorter
     c.in_ok-whole-in-Ok-item.ensures (omega (arith, c.max.ensures)))
 
@@ -179,9 +179,9 @@ pub binary::comparison-returns-in-Err-item-clause-exact : goal.binary::compariso
 binary::comparison-returns-in-Err-item-clause-exact t c =
     because (one (g.chain Comparison c.args.mode)) (continues Comparison c.args.mode) c.args.depth c.args.tokens.now c.in-Err-item.error c.discard_expr-in-Err-item.result c.discard_expr-in-Err-item.ensures
     (operator_refused Comparison c.args.mode (Comparisons c.args.mode) Never (once_chained c.args.mode) (never_clear c.args.mode)
-    c.later.result c.args.depth (c.args.depth - 1) c.args.tokens.now (expr c.in-Ok.read.0) c.in-Ok.read.1 c.in-Ok.read.2.now
+    c.later.result c.args.depth (c.args.depth - 1) c.args.tokens.now (expr c.in-Ok.read.tree) c.in-Ok.read.height c.in-Ok.read.rest.now
     c.in-Some.found.0 c.in-Some.found.1 c.in-Some.found.2.now c.in-Err-item.error c.later.ensures (omega arith)
-    (comparison_first c.args.mode c.args.depth c.args.tokens.now (expr c.in-Ok.read.0) c.in-Ok.read.1 c.in-Ok.read.2.now c.in-Ok.ensures.exact) (omega arith)
+    (comparison_first c.args.mode c.args.depth c.args.tokens.now (expr c.in-Ok.read.tree) c.in-Ok.read.height c.in-Ok.read.rest.now c.in-Ok.ensures.exact) (omega arith)
     (record { is = c.in-Some.ensures.is; op_is = c.in-Some.ensures.op; level_is = c.in-Some.ensures.level }) c.in-Err-item.ensures.exact)
 
 pub binary::item-returns-in-Or-clause-exact : goal.binary::item-returns-in-Or-clause-exact
@@ -222,7 +222,7 @@ unary::unary-returns-in-Operand-clause-exact t c = operand_same c.args.mode c.ar
 
 pub unary::unary-returns-in_ok-unary-in-Ok-clause-exact : goal.unary::unary-returns-in_ok-unary-in-Ok-clause-exact
 unary::unary-returns-in_ok-unary-in-Ok-clause-exact t c =
-    sign_found c.args.mode c.later.result c.args.depth (c.args.depth - 1) c.args.tokens.now c.in-Some.found.0 c.in-Some.found.1.now c.in-Sign.op _ _ c.in-Ok.height _
+    sign_found c.args.mode c.later.result c.args.depth (c.args.depth - 1) c.args.tokens.now c.in-Some.found.0 c.in-Some.found.1.now c.in-Sign.op _ _ c.in-Ok.field-0.height _
     c.later.ensures (omega arith) c.in-Some.ensures.some (sym c.in-Sign.ensures) c.in-Ok.ensures.exact c.in_ok-unary-in-Ok.ensures
 
 pub unary::unary-returns-in-Err-clause-exact : goal.unary::unary-returns-in-Err-clause-exact
@@ -240,14 +240,14 @@ unary::cast-returns-in-Err-ty-clause-exact t c = λ e.
 pub unary::cast-returns-in-Err-expect-clause-exact : goal.unary::cast-returns-in-Err-expect-clause-exact
 unary::cast-returns-in-Err-expect-clause-exact t c = λ e.
     because (one (g.unary c.args.mode)) (starts_suffix c.args.mode) (suc c.args.depth) (c.args.token ∷ c.args.behind.now) c.in-Err-expect.error c.discard_type.result c.discard_type.ensures
-    (cast_unclosed c.args.mode c.args.depth c.args.token c.args.behind.now (type c.in-Ok-ty.read.0) c.in-Ok-ty.read.1 c.in-Ok-ty.read.2.now c.in-Err-expect.error _ e
+    (cast_unclosed c.args.mode c.args.depth c.args.token c.args.behind.now (type c.in-Ok-ty.read.tree) c.in-Ok-ty.read.height c.in-Ok-ty.read.rest.now c.in-Err-expect.error _ e
     (record { open_ = c.in-Ok.found.0; inner = c.in-Ok.found.1.now; is = c.in-Ok.ensures.is; kind = c.in-Ok.ensures.kind; found = c.in-Ok-ty.ensures.exact })
     (λ over. over_by _ _ _ c.within.ensures.1 over) c.in-Err-expect.ensures.refused)
 
 pub unary::cast-returns-in_ok-cast-in-Ok-unary-clause-exact : goal.unary::cast-returns-in_ok-cast-in-Ok-unary-clause-exact
 unary::cast-returns-in_ok-cast-in-Ok-unary-clause-exact t c = λ e.
-    cast_answer c.args.mode c.later.result c.args.depth c.args.token c.args.behind.now (type c.in-Ok-ty.read.0) c.in-Ok-ty.read.1 c.in-Ok-ty.read.2.now c.in-Ok-expect.found.1.now
-    (expr c.in-Ok-unary.e) _ c.in-Ok-unary.n _ c.in-Ok-unary.rest.now c.later.ensures e
+    cast_answer c.args.mode c.later.result c.args.depth c.args.token c.args.behind.now (type c.in-Ok-ty.read.tree) c.in-Ok-ty.read.height c.in-Ok-ty.read.rest.now c.in-Ok-expect.found.1.now
+    (expr c.in-Ok-unary.field-0.tree) _ c.in-Ok-unary.field-0.height _ c.in-Ok-unary.field-0.rest.now c.later.ensures e
     (record { open_ = c.in-Ok.found.0; inner = c.in-Ok.found.1.now; is = c.in-Ok.ensures.is; kind = c.in-Ok.ensures.kind; found = c.in-Ok-ty.ensures.exact })
     (record { within = c.within.ensures.0 c.in-Ok-expect.ensures.within; close = c.in-Ok-expect.found.0; is = c.in-Ok-expect.ensures.is; kind = c.in-Ok-expect.ensures.kind })
     c.in-Ok-unary.ensures.exact c.in_ok-cast-in-Ok-unary.ensures (omega (arith, c.max.ensures))
@@ -255,7 +255,7 @@ unary::cast-returns-in_ok-cast-in-Ok-unary-clause-exact t c = λ e.
 pub unary::cast-returns-in-Err-unary-clause-exact : goal.unary::cast-returns-in-Err-unary-clause-exact
 unary::cast-returns-in-Err-unary-clause-exact t c = λ e.
     because (one (g.unary c.args.mode)) (starts_suffix c.args.mode) (suc c.args.depth) (c.args.token ∷ c.args.behind.now) c.in-Err-unary.error c.discard_type-in-Err-unary.result c.discard_type-in-Err-unary.ensures
-    (cast_refused c.args.mode c.later.result c.args.depth c.args.token c.args.behind.now (type c.in-Ok-ty.read.0) c.in-Ok-ty.read.1 c.in-Ok-ty.read.2.now c.in-Ok-expect.found.1.now c.in-Err-unary.error c.later.ensures e
+    (cast_refused c.args.mode c.later.result c.args.depth c.args.token c.args.behind.now (type c.in-Ok-ty.read.tree) c.in-Ok-ty.read.height c.in-Ok-ty.read.rest.now c.in-Ok-expect.found.1.now c.in-Err-unary.error c.later.ensures e
     (record { open_ = c.in-Ok.found.0; inner = c.in-Ok.found.1.now; is = c.in-Ok.ensures.is; kind = c.in-Ok.ensures.kind; found = c.in-Ok-ty.ensures.exact })
     (record { within = c.within.ensures.0 c.in-Ok-expect.ensures.within; close = c.in-Ok-expect.found.0; is = c.in-Ok-expect.ensures.is; kind = c.in-Ok-expect.ensures.kind })
     c.in-Err-unary.ensures.exact)
@@ -266,7 +266,7 @@ postfix::postfix-returns-in-Err-clause-exact t c = operand_refused c.args.mode c
 
 pub postfix::postfix-loop-form-init : goal.postfix::postfix-loop-form-init
 postfix::postfix-loop-form-init t c = record {
-  led = suffixes_first_to c.args.mode c.args.depth c.args.tokens.now (expr c.in-Ok.read.0) c.in-Ok.read.1 c.in-Ok.read.2.now c.in-Ok.read.3 c.in-Ok.ensures.exact;
+  led = suffixes_first_to c.args.mode c.args.depth c.args.tokens.now (expr c.in-Ok.read.tree) c.in-Ok.read.height c.in-Ok.read.rest.now c.in-Ok.read.end c.in-Ok.ensures.exact;
   short = c.in-Ok.ensures.shorter;
   low = c.in-Ok.ensures.low;
 }
@@ -287,7 +287,7 @@ postfix::postfix-returns-in-Err-read_suffix-clause-exact t c =
 pub postfix::postfix-loop-form-preserved : goal.postfix::postfix-loop-form-preserved
 postfix::postfix-loop-form-preserved t c = record {
   led =
-      suffix_more_to c.args.mode c.args.depth (c.args.depth - 1) c.args.tokens.now (expr c.loop-form.e) c.loop-form.height c.loop-form.rest.now c.loop-form.end c.in-Some.token c.in-Some.behind.now _ c.in-Ok-read_suffix.read.1 c.in-Ok-read_suffix.read.2.now _ _
+      suffix_more_to c.args.mode c.args.depth (c.args.depth - 1) c.args.tokens.now (expr c.loop-form.e) c.loop-form.height c.loop-form.rest.now c.loop-form.end c.in-Some.token c.in-Some.behind.now _ c.in-Ok-read_suffix.read.height c.in-Ok-read_suffix.read.rest.now _ _
       (omega arith) c.loop-form.invariant.led (omega arith) c.in-Some.ensures.is c.in-Some.ensures.starts
       (found_from c.in-Some.token c.in-Some.behind.now c.in-Some.ensures.is (c.in-Ok-read_suffix.ensures.exact c.in-Some.ensures.form c.in-Some.ensures.starts))
       (let longer = ap length c.in-Some.ensures.is in let read = c.in-Ok-read_suffix.ensures.shorter in omega (arith, longer, read)) c.in_ok-e.ensures (omega (arith, c.max-height.ensures));
@@ -312,14 +312,14 @@ postfix::read_suffix-returns-in-Bracket-clause-exact t c = λ k on. c.bracket.en
 
 pub postfix::read_suffix-returns-in-Ok-clause-exact : goal.postfix::read_suffix-returns-in-Ok-clause-exact
 postfix::read_suffix-returns-in-Ok-clause-exact t c = λ k on.
-    call_answer c.args.mode c.args.depth c.args.token c.args.behind.now c.args.form (argument_list c.in-Ok.list) c.in-Ok.height c.in-Ok.rest.now c.in-Call.is k (c.in-Ok.ensures.exact (inl refl))
+    call_answer c.args.mode c.args.depth c.args.token c.args.behind.now c.args.form (argument_list c.in-Ok.field-0.tree) c.in-Ok.field-0.height c.in-Ok.field-0.rest.now c.in-Call.is k (c.in-Ok.ensures.exact (inl refl))
 
 pub postfix::read_suffix-returns-in-Err-clause-exact : goal.postfix::read_suffix-returns-in-Err-clause-exact
 postfix::read_suffix-returns-in-Err-clause-exact t c = λ k on. call_refused c.args.mode c.args.depth c.args.token c.args.behind.now c.args.form c.in-Err.error c.in-Call.is k (c.in-Err.ensures.exact (inl refl))
 
 pub postfix::read_suffix-returns-in-Ok-arguments-clause-exact : goal.postfix::read_suffix-returns-in-Ok-arguments-clause-exact
 postfix::read_suffix-returns-in-Ok-arguments-clause-exact t c = λ k on.
-    literal_answer c.args.mode c.args.depth c.args.token c.args.behind.now c.args.form (argument_list c.in-Ok-arguments.list) c.in-Ok-arguments.height c.in-Ok-arguments.rest.now c.in-Literal.is k (c.in-Ok-arguments.ensures.exact (inr refl))
+    literal_answer c.args.mode c.args.depth c.args.token c.args.behind.now c.args.form (argument_list c.in-Ok-arguments.field-0.tree) c.in-Ok-arguments.field-0.height c.in-Ok-arguments.field-0.rest.now c.in-Literal.is k (c.in-Ok-arguments.ensures.exact (inr refl))
 
 pub postfix::read_suffix-returns-in-Err-arguments-clause-exact : goal.postfix::read_suffix-returns-in-Err-arguments-clause-exact
 postfix::read_suffix-returns-in-Err-arguments-clause-exact t c = λ k on.
@@ -331,7 +331,7 @@ postfix::read_suffix-returns-in-Nothing-clause-exact t c = λ k on. absurd (no_f
 -- an index or a cut
 pub postfix::bracket-returns-in-Ok-clause-exact : goal.postfix::bracket-returns-in-Ok-clause-exact
 postfix::bracket-returns-in-Ok-clause-exact t c = λ e.
-    open_cut_answer c.args.mode c.args.depth c.args.bracket c.in-Some._colon c.args.behind.now c.in-Some.rest.now (high_of c.in-Ok.end) c.in-Ok.height c.in-Ok.after.now e c.in-Some.ensures.is c.in-Some.ensures.kind c.in-Ok.ensures.exact
+    open_cut_answer c.args.mode c.args.depth c.args.bracket c.in-Some._colon c.args.behind.now c.in-Some.rest.now (high_of c.in-Ok.field-0.tree) c.in-Ok.field-0.height c.in-Ok.field-0.rest.now e c.in-Some.ensures.is c.in-Some.ensures.kind c.in-Ok.ensures.exact
 
 pub postfix::bracket-returns-in-Err-clause-exact : goal.postfix::bracket-returns-in-Err-clause-exact
 postfix::bracket-returns-in-Err-clause-exact t c = λ e.
@@ -349,40 +349,40 @@ postfix::high-returns-in-Err-clause-exact t c = high_refused c.args.depth c.args
 
 pub postfix::high-returns-in-Ok-expect-clause-exact : goal.postfix::high-returns-in-Ok-expect-clause-exact
 postfix::high-returns-in-Ok-expect-clause-exact t c =
-    high_answer c.args.depth c.in-Ok-expect.close c.args.tokens.now (expr c.in-Ok.read.0) c.in-Ok.read.1 c.in-Ok.read.2.now c.in-Ok-expect.rest.now c.in_default.ensures.none c.in-Ok.ensures.exact (c.within.ensures.0 c.in-Ok-expect.ensures.within)
+    high_answer c.args.depth c.in-Ok-expect.close c.args.tokens.now (expr c.in-Ok.read.tree) c.in-Ok.read.height c.in-Ok.read.rest.now c.in-Ok-expect.rest.now c.in_default.ensures.none c.in-Ok.ensures.exact (c.within.ensures.0 c.in-Ok-expect.ensures.within)
     c.in-Ok-expect.ensures.is c.in-Ok-expect.ensures.kind
 
 pub postfix::high-returns-in-Err-expect-clause-exact : goal.postfix::high-returns-in-Err-expect-clause-exact
 postfix::high-returns-in-Err-expect-clause-exact t c =
     because high_line nothing_continues c.args.depth c.args.tokens.now c.in-Err-expect.error c.discard_expr.result c.discard_expr.ensures
-    (high_unclosed c.args.depth c.args.tokens.now (expr c.in-Ok.read.0) c.in-Ok.read.1 c.in-Ok.read.2.now c.in-Err-expect.error _ c.in_default.ensures.none c.in-Ok.ensures.exact (λ over. over_by _ _ _ c.within.ensures.1 over) c.in-Err-expect.ensures.refused)
+    (high_unclosed c.args.depth c.args.tokens.now (expr c.in-Ok.read.tree) c.in-Ok.read.height c.in-Ok.read.rest.now c.in-Err-expect.error _ c.in_default.ensures.none c.in-Ok.ensures.exact (λ over. over_by _ _ _ c.within.ensures.1 over) c.in-Err-expect.ensures.refused)
 
 pub postfix::bracket-returns-then-n-from-clause-exact : goal.postfix::bracket-returns-then-n-from-clause-exact
 postfix::bracket-returns-then-n-from-clause-exact t c = λ e.
-    index_answer c.args.mode c.args.depth c.args.bracket c.in-Some-strip._close c.args.behind.now (expr c.in-Ok-level.read.0) c.in-Ok-level.read.1 c.in-Ok-level.read.2.now c.in-Some-strip.rest.now e c.in_default.ensures.none
+    index_answer c.args.mode c.args.depth c.args.bracket c.in-Some-strip._close c.args.behind.now (expr c.in-Ok-level.read.tree) c.in-Ok-level.read.height c.in-Ok-level.read.rest.now c.in-Some-strip.rest.now e c.in_default.ensures.none
     c.in-Ok-level.ensures.exact (omega arith) c.in-Some-strip.ensures.is c.in-Some-strip.ensures.kind
 
 pub postfix::bracket-returns-in-Some-strip-clause-exact : goal.postfix::bracket-returns-in-Some-strip-clause-exact
 postfix::bracket-returns-in-Some-strip-clause-exact t c = λ e.
     because (one (g.suffix c.args.mode)) nothing_continues c.args.depth _ _ c.discard_expr.result c.discard_expr.ensures
-    (index_deep c.args.mode c.args.depth c.args.bracket c.in-Some-strip._close c.args.behind.now (expr c.in-Ok-level.read.0) c.in-Ok-level.read.1 c.in-Ok-level.read.2.now c.in-Some-strip.rest.now e c.in_default.ensures.none
+    (index_deep c.args.mode c.args.depth c.args.bracket c.in-Some-strip._close c.args.behind.now (expr c.in-Ok-level.read.tree) c.in-Ok-level.read.height c.in-Ok-level.read.rest.now c.in-Some-strip.rest.now e c.in_default.ensures.none
     c.in-Ok-level.ensures.exact (omega arith) c.in-Some-strip.ensures.is c.in-Some-strip.ensures.kind)
 
 pub postfix::bracket-returns-in-Err-expect-clause-exact : goal.postfix::bracket-returns-in-Err-expect-clause-exact
 postfix::bracket-returns-in-Err-expect-clause-exact t c = λ e.
     because (one (g.suffix c.args.mode)) nothing_continues c.args.depth _ c.in-Err-expect.error c.discard_expr-in-Err-expect.result c.discard_expr-in-Err-expect.ensures
-    (colon_refused c.args.mode c.args.depth c.args.bracket c.args.behind.now (expr c.in-Ok-level.read.0) c.in-Ok-level.read.1 c.in-Ok-level.read.2.now c.in-Err-expect.error _ e c.in_default.ensures.none c.in-Ok-level.ensures.exact
+    (colon_refused c.args.mode c.args.depth c.args.bracket c.args.behind.now (expr c.in-Ok-level.read.tree) c.in-Ok-level.read.height c.in-Ok-level.read.rest.now c.in-Err-expect.error _ e c.in_default.ensures.none c.in-Ok-level.ensures.exact
     c.in_default-strip.ensures.none (λ over. over_by _ _ _ c.within.ensures.1 over) c.in-Err-expect.ensures.refused)
 
 pub postfix::bracket-returns-in-Ok-high-clause-exact : goal.postfix::bracket-returns-in-Ok-high-clause-exact
 postfix::bracket-returns-in-Ok-high-clause-exact t c = λ e.
-    cut_answer c.args.mode c.args.depth c.args.bracket c.in-Ok-expect.found.0 c.args.behind.now (expr c.in-Ok-level.read.0) c.in-Ok-level.read.1 c.in-Ok-level.read.2.now c.in-Ok-expect.found.1.now (high_of c.in-Ok-high.end) c.in-Ok-high.m c.in-Ok-high.last.now
+    cut_answer c.args.mode c.args.depth c.args.bracket c.in-Ok-expect.found.0 c.args.behind.now (expr c.in-Ok-level.read.tree) c.in-Ok-level.read.height c.in-Ok-level.read.rest.now c.in-Ok-expect.found.1.now (high_of c.in-Ok-high.field-0.tree) c.in-Ok-high.field-0.height c.in-Ok-high.field-0.rest.now
     e c.in_default.ensures.none c.in-Ok-level.ensures.exact (c.within.ensures.0 c.in-Ok-expect.ensures.within) c.in-Ok-expect.ensures.is c.in-Ok-expect.ensures.kind c.in-Ok-high.ensures.exact _ c.max.ensures
 
 pub postfix::bracket-returns-in-Err-high-clause-exact : goal.postfix::bracket-returns-in-Err-high-clause-exact
 postfix::bracket-returns-in-Err-high-clause-exact t c = λ e.
     because (one (g.suffix c.args.mode)) nothing_continues c.args.depth _ c.in-Err-high.error c.discard_expr-in-Err-high.result c.discard_expr-in-Err-high.ensures
-    (cut_refused c.args.mode c.args.depth c.args.bracket c.in-Ok-expect.found.0 c.args.behind.now (expr c.in-Ok-level.read.0) c.in-Ok-level.read.1 c.in-Ok-level.read.2.now c.in-Ok-expect.found.1.now c.in-Err-high.error
+    (cut_refused c.args.mode c.args.depth c.args.bracket c.in-Ok-expect.found.0 c.args.behind.now (expr c.in-Ok-level.read.tree) c.in-Ok-level.read.height c.in-Ok-level.read.rest.now c.in-Ok-expect.found.1.now c.in-Err-high.error
     e c.in_default.ensures.none c.in-Ok-level.ensures.exact (c.within.ensures.0 c.in-Ok-expect.ensures.within) c.in-Ok-expect.ensures.is c.in-Ok-expect.ensures.kind c.in-Err-high.ensures.exact)
 
 -- arguments
@@ -404,20 +404,20 @@ arguments::arguments-returns-in-Err-clause-exact t c = λ k.
 
 pub arguments::arguments-returns-in-Some-end-clause-exact : goal.arguments::arguments-returns-in-Some-end-clause-exact
 arguments::arguments-returns-in-Some-end-clause-exact t c = λ k.
-    arguments_answer c.args.close k c.args.depth c.args.tokens.now c.items.args.items _ c.in-Ok.read.0 _ c.in-Ok.read.2.now c.in-Some-end.token c.in-Ok-after_item.found.1.now
-    (item_read c.args.close k c.args.depth c.args.tokens.now c.items.args.items c.items.height c.items.rest.now (argument c.in-Ok.read.0) c.in-Ok.read.1 _ c.in-Ok.read.2.now
+    arguments_answer c.args.close k c.args.depth c.args.tokens.now c.items.args.items _ c.in-Ok.read.tree _ c.in-Ok.read.rest.now c.in-Some-end.token c.in-Ok-after_item.found.1.now
+    (item_read c.args.close k c.args.depth c.args.tokens.now c.items.args.items c.items.height c.items.rest.now (argument c.in-Ok.read.tree) c.in-Ok.read.height _ c.in-Ok.read.rest.now
     (c.items.invariant.led k) c.items.invariant.low c.in-Ok.ensures.exact (omega (arith, c.max-height.ensures)))
     c.in_ok-args.ensures (c.within.ensures.0 c.in-Ok-after_item.ensures.within)
-    (ended_of c.args.close c.in-Ok.read.2.now c.in-Ok-after_item.found.0 c.in-Some-end.token c.in-Ok-after_item.found.1.now c.in-Some-end.is c.in-Ok-after_item.ensures.ended)
+    (ended_of c.args.close c.in-Ok.read.rest.now c.in-Ok-after_item.found.0 c.in-Some-end.token c.in-Ok-after_item.found.1.now c.in-Some-end.is c.in-Ok-after_item.ensures.ended)
 
 pub arguments::arguments-items-preserved : goal.arguments::arguments-items-preserved
 arguments::arguments-items-preserved t c = record {
   led = λ k.
-      arguments_again c.args.close k c.args.depth c.args.tokens.now c.items.args.items _ c.in-Ok.read.0 _ c.in-Ok.read.2.now c.in-Ok-after_item.found.1.now
-      (item_read c.args.close k c.args.depth c.args.tokens.now c.items.args.items c.items.height c.items.rest.now (argument c.in-Ok.read.0) c.in-Ok.read.1 _ c.in-Ok.read.2.now
+      arguments_again c.args.close k c.args.depth c.args.tokens.now c.items.args.items _ c.in-Ok.read.tree _ c.in-Ok.read.rest.now c.in-Ok-after_item.found.1.now
+      (item_read c.args.close k c.args.depth c.args.tokens.now c.items.args.items c.items.height c.items.rest.now (argument c.in-Ok.read.tree) c.in-Ok.read.height _ c.in-Ok.read.rest.now
       (c.items.invariant.led k) c.items.invariant.low c.in-Ok.ensures.exact (omega (arith, c.max-height.ensures)))
       c.in_ok-args.ensures (c.within.ensures.0 c.in-Ok-after_item.ensures.within)
-      (again_of c.args.close c.in-Ok.read.2.now c.in-Ok-after_item.found.0 c.in-Ok-after_item.found.1.now c.in-None.is c.in-Ok-after_item.ensures.again);
+      (again_of c.args.close c.in-Ok.read.rest.now c.in-Ok-after_item.found.0 c.in-Ok-after_item.found.1.now c.in-None.is c.in-Ok-after_item.ensures.again);
   short = let read = c.in-Ok.ensures.shorter in let more = c.in-Ok-after_item.ensures.shorter in let before = c.items.invariant.short in omega (arith, read, more, before);
   low = c.within.ensures.0 c.in-Ok-after_item.ensures.within;
 }
@@ -425,21 +425,21 @@ arguments::arguments-items-preserved t c = record {
 pub arguments::arguments-returns-in-Err-after_item-clause-exact : goal.arguments::arguments-returns-in-Err-after_item-clause-exact
 arguments::arguments-returns-in-Err-after_item-clause-exact t c = λ k.
     because (arguments c.args.close) nothing_continues c.args.depth c.args.tokens.now c.in-Err-after_item.error c.discard_args-in-Err-after_item.result c.discard_args-in-Err-after_item.ensures
-    (arguments_refused c.args.close k c.args.depth c.args.tokens.now c.items.args.items (argument c.in-Ok.read.0) c.max-height.result c.in-Ok.read.2.now c.in-Err-after_item.error _
-    (item_read c.args.close k c.args.depth c.args.tokens.now c.items.args.items c.items.height c.items.rest.now (argument c.in-Ok.read.0) c.in-Ok.read.1 _ c.in-Ok.read.2.now
+    (arguments_refused c.args.close k c.args.depth c.args.tokens.now c.items.args.items (argument c.in-Ok.read.tree) c.max-height.result c.in-Ok.read.rest.now c.in-Err-after_item.error _
+    (item_read c.args.close k c.args.depth c.args.tokens.now c.items.args.items c.items.height c.items.rest.now (argument c.in-Ok.read.tree) c.in-Ok.read.height _ c.in-Ok.read.rest.now
     (c.items.invariant.led k) c.items.invariant.low c.in-Ok.ensures.exact (omega (arith, c.max-height.ensures)))
     c.in-Err-after_item.ensures.refused (λ over. over_by _ _ _ c.within.ensures.1 over))
 
 -- one argument
 pub arguments::argument-returns-in-Ok-clause-exact : goal.arguments::argument-returns-in-Ok-clause-exact
-arguments::argument-returns-in-Ok-clause-exact t c = plain_argument c.args.depth c.args.tokens.now (expr c.in-Ok.value) c.in-Ok.height c.in-Ok.after.now c.in-None.ensures.none c.in-Ok.ensures.exact
+arguments::argument-returns-in-Ok-clause-exact t c = plain_argument c.args.depth c.args.tokens.now (expr c.in-Ok.field-0.tree) c.in-Ok.field-0.height c.in-Ok.field-0.rest.now c.in-None.ensures.none c.in-Ok.ensures.exact
 
 pub arguments::argument-returns-in-Err-clause-exact : goal.arguments::argument-returns-in-Err-clause-exact
 arguments::argument-returns-in-Err-clause-exact t c = plain_refused c.args.depth c.args.tokens.now c.in-Err.error c.in-None.ensures.none c.in-Err.ensures.exact
 
 pub arguments::argument-returns-in-Ok-level-clause-exact : goal.arguments::argument-returns-in-Ok-level-clause-exact
 arguments::argument-returns-in-Ok-level-clause-exact t c =
-    signed_argument c.args.depth c.in-Some.found.0 c.in-Some-strip._assign c.args.tokens.now c.in-Some.found.1.now c.in-Some-strip.rest.now (expr c.in-Ok-level.value) c.in-Ok-level.height c.in-Ok-level.after.now
+    signed_argument c.args.depth c.in-Some.found.0 c.in-Some-strip._assign c.args.tokens.now c.in-Some.found.1.now c.in-Some-strip.rest.now (expr c.in-Ok-level.field-0.tree) c.in-Ok-level.field-0.height c.in-Ok-level.field-0.rest.now
     c.in-Some.ensures.is c.in-Some-strip.ensures.is c.in-Some.ensures.kind c.in-Some-strip.ensures.kind c.in-Ok-level.ensures.exact
 
 pub arguments::argument-returns-in-Err-level-clause-exact : goal.arguments::argument-returns-in-Err-level-clause-exact
@@ -454,7 +454,7 @@ arguments::argument-returns-then-depth-eq0-clause-exact t c =
 
 pub arguments::argument-returns-in-Ok-level-2-clause-exact : goal.arguments::argument-returns-in-Ok-level-2-clause-exact
 arguments::argument-returns-in-Ok-level-2-clause-exact t c =
-    named_argument c.args.depth c.in-Some.found.0 c.args.tokens.now c.in-Some.found.1.now (expr c.in-Ok-level-2.value) c.in-Ok-level-2.height c.in-Ok-level-2.after.now
+    named_argument c.args.depth c.in-Some.found.0 c.args.tokens.now c.in-Some.found.1.now (expr c.in-Ok-level-2.field-0.tree) c.in-Ok-level-2.field-0.height c.in-Ok-level-2.field-0.rest.now
     c.in-Some.ensures.is c.in_default.ensures.none c.in-Ok-level-2.ensures.shorter c.in-Ok-level-2.ensures.exact
 
 pub arguments::argument-returns-in-Err-level-2-clause-exact : goal.arguments::argument-returns-in-Err-level-2-clause-exact
@@ -500,7 +500,7 @@ operand::compound-returns-in-Group-clause-exact t c = λ is k leaf some. c.group
 
 pub operand::compound-returns-in_ok-literal-in-Ok-arguments-clause-exact : goal.operand::compound-returns-in_ok-literal-in-Ok-arguments-clause-exact
 operand::compound-returns-in_ok-literal-in-Ok-arguments-clause-exact t c = λ is k leaf some.
-    found_to (brace_answer c.args.mode c.args.depth c.args.token c.args.behind.now c.args.form (argument_list c.in-Ok-arguments.list) _ c.in-Ok-arguments.height _ c.in-Ok-arguments.rest.now c.in-Literal.is k
+    found_to (brace_answer c.args.mode c.args.depth c.args.token c.args.behind.now c.args.form (argument_list c.in-Ok-arguments.field-0.tree) _ c.in-Ok-arguments.field-0.height _ c.in-Ok-arguments.field-0.rest.now c.in-Literal.is k
     (c.in-Ok-arguments.ensures.exact (inr refl)) c.in_ok-literal-in-Ok-arguments.ensures (omega arith))
 
 pub operand::compound-returns-in-Err-arguments-clause-exact : goal.operand::compound-returns-in-Err-arguments-clause-exact
@@ -510,9 +510,9 @@ operand::compound-returns-in-Err-arguments-clause-exact t c = λ is k leaf some.
 
 pub operand::compound-returns-in_ok-type_tree-in-Ok-constructed-clause-exact : goal.operand::compound-returns-in_ok-type_tree-in-Ok-constructed-clause-exact
 operand::compound-returns-in_ok-type_tree-in-Ok-constructed-clause-exact t c = λ is k leaf some.
-    type_answer c.args.mode c.args.depth c.args.token c.args.behind.now c.args.form (type c.in-Ok-constructed.t) _ c.in-Ok-constructed.height _ c.in-Ok-constructed.rest.now c.in-Ok-constructed.end c.in-Type.is k
+    type_answer c.args.mode c.args.depth c.args.token c.args.behind.now c.args.form (type c.in-Ok-constructed.field-0.tree) _ c.in-Ok-constructed.field-0.height _ c.in-Ok-constructed.field-0.rest.now c.in-Ok-constructed.field-0.end c.in-Type.is k
     (found_at c.args.token c.args.behind.now is
-    (constructed_found c.args.mode c.operand_use.result c.args.depth c.args.tokens.now (type c.in-Ok-constructed.t) c.in-Ok-constructed.height c.in-Ok-constructed.rest.now c.in-Ok-constructed.end c.operand_use.ensures c.in-Ok-constructed.ensures.exact))
+    (constructed_found c.args.mode c.operand_use.result c.args.depth c.args.tokens.now (type c.in-Ok-constructed.field-0.tree) c.in-Ok-constructed.field-0.height c.in-Ok-constructed.field-0.rest.now c.in-Ok-constructed.field-0.end c.operand_use.ensures c.in-Ok-constructed.ensures.exact))
     c.in_ok-type_tree-in-Ok-constructed.ensures (omega arith)
 
 pub operand::compound-returns-in-Err-constructed-clause-exact : goal.operand::compound-returns-in-Err-constructed-clause-exact
@@ -533,14 +533,14 @@ operand::compound-returns-in_default-clause-exact t c = λ is k leaf some.
 
 pub operand::group-returns-in-Ok-expect-clause-exact : goal.operand::group-returns-in-Ok-expect-clause-exact
 operand::group-returns-in-Ok-expect-clause-exact t c = λ k.
-    found_to (group_answer c.args.mode c.args.depth c.args.paren c.in-Ok-expect._close c.args.behind.now form.Group (expr c.in-Ok.read.0) _ c.in-Ok.read.1 _ c.in-Ok.read.2.now c.in-Ok-expect.rest.now refl k
+    found_to (group_answer c.args.mode c.args.depth c.args.paren c.in-Ok-expect._close c.args.behind.now form.Group (expr c.in-Ok.read.tree) _ c.in-Ok.read.height _ c.in-Ok.read.rest.now c.in-Ok-expect.rest.now refl k
     c.in-Ok.ensures.exact (c.within.ensures.0 c.in-Ok-expect.ensures.within) c.in-Ok-expect.ensures.is c.in-Ok-expect.ensures.kind c.open.ensures (omega arith))
 
 pub operand::group-returns-in-Err-expect-clause-exact : goal.operand::group-returns-in-Err-expect-clause-exact
 operand::group-returns-in-Err-expect-clause-exact t c = λ k.
     because_to (one (g.operand c.args.mode)) nothing_continues (suc c.args.depth) (c.args.paren ∷ c.args.behind.now) c.in-Err-expect.error c.discard_expr.result c.discard_expr.ensures
     (refused_to (one (g.operand c.args.mode)) nothing_continues (suc c.args.depth) (c.args.paren ∷ c.args.behind.now) c.in-Err-expect.error
-    (group_unclosed c.args.mode c.args.depth c.args.paren c.args.behind.now form.Group (expr c.in-Ok.read.0) c.in-Ok.read.1 c.in-Ok.read.2.now c.in-Err-expect.error _ refl k
+    (group_unclosed c.args.mode c.args.depth c.args.paren c.args.behind.now form.Group (expr c.in-Ok.read.tree) c.in-Ok.read.height c.in-Ok.read.rest.now c.in-Err-expect.error _ refl k
     c.in-Ok.ensures.exact (λ over. over_by _ _ _ c.within.ensures.1 over) c.in-Err-expect.ensures.refused))
 
 pub operand::group-returns-in-Err-clause-exact : goal.operand::group-returns-in-Err-clause-exact
@@ -560,17 +560,17 @@ postfix::member-returns-in-Err-clause-exact t c = λ e.
 
 pub postfix::member-returns-in-Ok-expect-clause-exact : goal.postfix::member-returns-in-Ok-expect-clause-exact
 postfix::member-returns-in-Ok-expect-clause-exact t c = λ e.
-    assert_answer c.args.mode c.args.depth c.args.dot c.in-Some-strip.found.0 c.in-Ok-expect._close c.args.behind.now c.in-Some-strip.found.1.now (type c.in-Ok.read.0) c.in-Ok.read.1 c.in-Ok.read.2.now c.in-Ok-expect.rest.now
+    assert_answer c.args.mode c.args.depth c.args.dot c.in-Some-strip.found.0 c.in-Ok-expect._close c.args.behind.now c.in-Some-strip.found.1.now (type c.in-Ok.read.tree) c.in-Ok.read.height c.in-Ok.read.rest.now c.in-Ok-expect.rest.now
     e c.in-Some-strip.ensures.is c.in-Some-strip.ensures.kind c.in-Ok.ensures.exact (c.within.ensures.0 c.in-Ok-expect.ensures.within) c.in-Ok-expect.ensures.is c.in-Ok-expect.ensures.kind
 
 pub postfix::member-returns-in-Err-expect-clause-exact : goal.postfix::member-returns-in-Err-expect-clause-exact
 postfix::member-returns-in-Err-expect-clause-exact t c = λ e.
     because (one (g.suffix c.args.mode)) nothing_continues c.args.depth (c.args.dot ∷ c.args.behind.now) c.in-Err-expect.error c.discard_type.result c.discard_type.ensures
-    (assert_unclosed c.args.mode c.args.depth c.args.dot c.in-Some-strip.found.0 c.args.behind.now c.in-Some-strip.found.1.now (type c.in-Ok.read.0) c.in-Ok.read.1 c.in-Ok.read.2.now c.in-Err-expect.error _
+    (assert_unclosed c.args.mode c.args.depth c.args.dot c.in-Some-strip.found.0 c.args.behind.now c.in-Some-strip.found.1.now (type c.in-Ok.read.tree) c.in-Ok.read.height c.in-Ok.read.rest.now c.in-Err-expect.error _
     e c.in-Some-strip.ensures.is c.in-Some-strip.ensures.kind c.in-Ok.ensures.exact (λ over. over_by _ _ _ c.within.ensures.1 over) c.in-Err-expect.ensures.refused)
 
 pub types::ty-returns-in-Ok-clause-exact : goal.types::ty-returns-in-Ok-clause-exact
-types::ty-returns-in-Ok-clause-exact t c = inside_found c.args.used c.inside.result c.args.depth c.args.tokens.now (type c.in-Ok.t) c.in-Ok.height c.in-Ok.rest.now c.in-Ok._end c.inside.ensures c.in-Ok.ensures.exact
+types::ty-returns-in-Ok-clause-exact t c = inside_found c.args.used c.inside.result c.args.depth c.args.tokens.now (type c.in-Ok.field-0.tree) c.in-Ok.field-0.height c.in-Ok.field-0.rest.now c.in-Ok.field-0.end c.inside.ensures c.in-Ok.ensures.exact
 
 pub types::ty-returns-in-Err-clause-exact : goal.types::ty-returns-in-Err-clause-exact
 types::ty-returns-in-Err-clause-exact t c = inside_refused c.args.used c.inside.result c.args.depth c.args.tokens.now c.in-Err.error c.inside.ensures c.in-Err.ensures.exact
@@ -649,19 +649,19 @@ types::build-returns-in-Enum-clause-exact t c = λ e. c.enum_type.ensures.exact 
 pub types::own-returns-in_ok-procedure-in-Ok-clause-exact : goal.types::own-returns-in_ok-procedure-in-Ok-clause-exact
 types::own-returns-in_ok-procedure-in-Ok-clause-exact t c = λ e.
     let k = own_kind c.args.token.kind _ (e ∙ ap Some c.in-Proc.is) in
-    proc_answer c.args.used c.args.depth c.args.token c.args.behind.now (signature c.in-Ok.s) c.in-Ok.height c.in-Ok.rest.now c.in-Ok.end _ _ k (c.in-Ok.ensures.exact k)
-    (c.in_ok-procedure-in-Ok.ensures ∙ proc_place c.args.used c.args.depth c.args.token c.args.behind.now (signature c.in-Ok.s) c.in-Ok.height c.in-Ok.rest.now c.in-Ok.end (c.in-Ok.ensures.exact k) c.in-Ok.ensures.shorter) (omega arith)
+    proc_answer c.args.used c.args.depth c.args.token c.args.behind.now (signature c.in-Ok.field-0.tree) c.in-Ok.field-0.height c.in-Ok.field-0.rest.now c.in-Ok.field-0.end _ _ k (c.in-Ok.ensures.exact k)
+    (c.in_ok-procedure-in-Ok.ensures ∙ proc_place c.args.used c.args.depth c.args.token c.args.behind.now (signature c.in-Ok.field-0.tree) c.in-Ok.field-0.height c.in-Ok.field-0.rest.now c.in-Ok.field-0.end (c.in-Ok.ensures.exact k) c.in-Ok.ensures.shorter) (omega arith)
 
 pub types::pointer-returns-in_ok-pointer-in-Ok-clause-exact : goal.types::pointer-returns-in_ok-pointer-in-Ok-clause-exact
 types::pointer-returns-in_ok-pointer-in-Ok-clause-exact t c = λ e.
-    pointer_answer c.args.used c.at_end.result c.args.depth c.args.token c.args.behind.now (type c.in-Ok.t) c.in-Ok.height c.in-Ok.rest.now c.in-Ok.end _ _ c.at_end.ensures e c.in-Ok.ensures.exact c.in_ok-pointer-in-Ok.ensures (omega arith)
+    pointer_answer c.args.used c.at_end.result c.args.depth c.args.token c.args.behind.now (type c.in-Ok.field-0.tree) c.in-Ok.field-0.height c.in-Ok.field-0.rest.now c.in-Ok.field-0.end _ _ c.at_end.ensures e c.in-Ok.ensures.exact c.in_ok-pointer-in-Ok.ensures (omega arith)
 
 pub types::pointer-returns-in-Err-clause-exact : goal.types::pointer-returns-in-Err-clause-exact
 types::pointer-returns-in-Err-clause-exact t c = λ e. pointer_refused c.args.used c.at_end.result c.args.depth c.args.token c.args.behind.now c.in-Err.error c.at_end.ensures e c.in-Err.ensures.exact
 
 pub types::distinct-returns-in_ok-distinct-in-Ok-clause-exact : goal.types::distinct-returns-in_ok-distinct-in-Ok-clause-exact
 types::distinct-returns-in_ok-distinct-in-Ok-clause-exact t c = λ e.
-    distinct_answer c.args.used c.at_end.result c.args.depth c.args.token c.args.behind.now (type c.in-Ok.t) c.in-Ok.height c.in-Ok.rest.now c.in-Ok.end _ _ c.at_end.ensures e c.in-Ok.ensures.exact c.in_ok-distinct-in-Ok.ensures (omega arith)
+    distinct_answer c.args.used c.at_end.result c.args.depth c.args.token c.args.behind.now (type c.in-Ok.field-0.tree) c.in-Ok.field-0.height c.in-Ok.field-0.rest.now c.in-Ok.field-0.end _ _ c.at_end.ensures e c.in-Ok.ensures.exact c.in_ok-distinct-in-Ok.ensures (omega arith)
 
 pub types::distinct-returns-in-Err-clause-exact : goal.types::distinct-returns-in-Err-clause-exact
 types::distinct-returns-in-Err-clause-exact t c = λ e. distinct_refused c.args.used c.at_end.result c.args.depth c.args.token c.args.behind.now c.in-Err.error c.at_end.ensures e c.in-Err.ensures.exact
@@ -675,7 +675,7 @@ types::word_proc-returns-in-Err-signature-clause-exact t c = λ e.
 
 pub types::word_proc-returns-in_ok-procedure-in-Ok-signature-clause-exact : goal.types::word_proc-returns-in_ok-procedure-in-Ok-signature-clause-exact
 types::word_proc-returns-in_ok-procedure-in-Ok-signature-clause-exact t c = λ e.
-    word_answer c.args.used c.args.depth c.args.token c.in-Ok.found.0 c.args.behind.now c.in-Ok.found.1.now (signature c.in-Ok-signature.s) c.in-Ok-signature.height c.in-Ok-signature.rest.now c.in-Ok-signature.end _ _
+    word_answer c.args.used c.args.depth c.args.token c.in-Ok.found.0 c.args.behind.now c.in-Ok.found.1.now (signature c.in-Ok-signature.field-0.tree) c.in-Ok-signature.field-0.height c.in-Ok-signature.field-0.rest.now c.in-Ok-signature.field-0.end _ _
     (built_kind c.args.used c.args.token _ e) c.in-Ok.ensures.is (c.in-Ok-signature.ensures.exact c.in-Ok.ensures.kind) c.in_ok-procedure-in-Ok-signature.ensures (omega arith)
 
 pub types::soa-returns-in-Ok-clause-exact : goal.types::soa-returns-in-Ok-clause-exact
@@ -697,13 +697,13 @@ arrays::sized-returns-in-Err-clause-exact t c = λ ts z open'. length_refused c.
 
 pub arrays::sized-returns-in_ok-bracketed-in-Ok-type_to-clause-exact : goal.arrays::sized-returns-in_ok-bracketed-in-Ok-type_to-clause-exact
 arrays::sized-returns-in_ok-bracketed-in-Ok-type_to-clause-exact t c = λ ts z open'.
-    bracket_answer c.args.used c.at_end.result c.args.shape c.args.at c.args.depth ts c.args.tokens.now (view.length c.in-Ok.read.0, (c.in-Ok.read.1, tt)) c.in-Ok.read.2 c.in-Ok.read.3.now (type c.in-Ok-type_to.t) c.in-Ok-type_to.m c.in-Ok-type_to.rest.now c.in-Ok-type_to.end _ _
+    bracket_answer c.args.used c.at_end.result c.args.shape c.args.at c.args.depth ts c.args.tokens.now (view.length c.in-Ok.read.tree.part, (c.in-Ok.read.tree.close, tt)) c.in-Ok.read.height c.in-Ok.read.rest.now (type c.in-Ok-type_to.field-0.tree) c.in-Ok-type_to.field-0.height c.in-Ok-type_to.field-0.rest.now c.in-Ok-type_to.field-0.end _ _
     c.at_end.ensures z open' c.in-Ok.ensures.exact c.in-Ok.ensures.low c.in-Ok-type_to.ensures.exact c.in_ok-bracketed-in-Ok-type_to.ensures (omega (arith, c.max.ensures))
 
 pub arrays::sized-returns-in-Err-type_to-clause-exact : goal.arrays::sized-returns-in-Err-type_to-clause-exact
 arrays::sized-returns-in-Err-type_to-clause-exact t c = λ ts z open'.
     because_as c.args.used (one (g.constructed c.args.used)) (suc c.args.depth) ts c.in-Err-type_to.error c.discard_length.result c.discard_length.ensures
-    (element_refused c.args.used c.at_end.result c.args.shape c.args.at c.args.depth ts c.args.tokens.now (view.length c.in-Ok.read.0, (c.in-Ok.read.1, tt)) c.in-Ok.read.2 c.in-Ok.read.3.now c.in-Err-type_to.error c.at_end.ensures z open' c.in-Ok.ensures.exact c.in-Ok.ensures.low c.in-Err-type_to.ensures.exact)
+    (element_refused c.args.used c.at_end.result c.args.shape c.args.at c.args.depth ts c.args.tokens.now (view.length c.in-Ok.read.tree.part, (c.in-Ok.read.tree.close, tt)) c.in-Ok.read.height c.in-Ok.read.rest.now c.in-Err-type_to.error c.at_end.ensures z open' c.in-Ok.ensures.exact c.in-Ok.ensures.low c.in-Err-type_to.ensures.exact)
 
 pub arrays::counted-returns-in-Err-clause-exact : goal.arrays::counted-returns-in-Err-clause-exact
 arrays::counted-returns-in-Err-clause-exact t c = λ ts z. counted_unclosed c.args.used c.args.shape c.args.at c.args.depth ts c.args.tokens.now c.in-Err.error z c.in-Err.ensures.refused
@@ -738,7 +738,7 @@ fields::struct_type-returns-in-Err-field_list-clause-exact t c = λ e. struct_re
 
 pub fields::struct_type-returns-in_ok-structure-in-Ok-field_list-clause-exact : goal.fields::struct_type-returns-in_ok-structure-in-Ok-field_list-clause-exact
 fields::struct_type-returns-in_ok-structure-in-Ok-field_list-clause-exact t c = λ e.
-    struct_answer c.args.used c.args.depth c.args.token c.in-Ok.found.0 c.args.behind.now c.in-Ok.found.1.now (fields c.in-Ok-field_list.list.items, (c.in-Ok-field_list._close, tt)) c.in-Ok-field_list.height c.in-Ok-field_list.rest.now _ _ e c.in-Ok.ensures.is c.in-Ok.ensures.kind
+    struct_answer c.args.used c.args.depth c.args.token c.in-Ok.found.0 c.args.behind.now c.in-Ok.found.1.now (fields c.in-Ok-field_list.read.tree.part.items, (c.in-Ok-field_list.read.tree.close, tt)) c.in-Ok-field_list.read.height c.in-Ok-field_list.read.rest.now _ _ e c.in-Ok.ensures.is c.in-Ok.ensures.kind
     c.in-Ok-field_list.ensures.exact c.in_ok-structure-in-Ok-field_list.ensures (omega arith)
 
 pub fields::union_type-returns-in-Err-clause-exact : goal.fields::union_type-returns-in-Err-clause-exact
@@ -749,7 +749,7 @@ fields::union_type-returns-in-Err-type_list-clause-exact t c = λ e. union_refus
 
 pub fields::union_type-returns-in_ok-union_of-in-Ok-type_list-clause-exact : goal.fields::union_type-returns-in_ok-union_of-in-Ok-type_list-clause-exact
 fields::union_type-returns-in_ok-union_of-in-Ok-type_list-clause-exact t c = λ e.
-    union_answer c.args.used c.args.depth c.args.token c.in-Ok.found.0 c.args.behind.now c.in-Ok.found.1.now (types c.in-Ok-type_list.list.items, (c.in-Ok-type_list._close, tt)) c.in-Ok-type_list.height c.in-Ok-type_list.rest.now _ _ e c.in-Ok.ensures.is c.in-Ok.ensures.kind
+    union_answer c.args.used c.args.depth c.args.token c.in-Ok.found.0 c.args.behind.now c.in-Ok.found.1.now (types c.in-Ok-type_list.read.tree.part.items, (c.in-Ok-type_list.read.tree.close, tt)) c.in-Ok-type_list.read.height c.in-Ok-type_list.read.rest.now _ _ e c.in-Ok.ensures.is c.in-Ok.ensures.kind
     c.in-Ok-type_list.ensures.exact c.in_ok-union_of-in-Ok-type_list.ensures (omega arith)
 
 pub fields::field_list-returns-in-Some-clause-exact : goal.fields::field_list-returns-in-Some-clause-exact
@@ -769,18 +769,18 @@ fields::field_list-returns-in-Err-clause-exact t c =
 
 pub fields::field_list-returns-in-Some-end-clause-exact : goal.fields::field_list-returns-in-Some-end-clause-exact
 fields::field_list-returns-in-Some-end-clause-exact t c =
-    list_answer (field_list (inside c.args.used)) (fields_line (inside c.args.used)) c.args.depth c.args.tokens.now c.items.list.items _ c.in-Ok.read.0 _ c.in-Ok.read.3.now c.in-Some-end.close c.in-Ok-after_item.found.1.now
-    (item_as (field_list (inside c.args.used)) (fields_line (inside c.args.used)) c.args.depth c.args.tokens.now c.items.list.items c.items.height c.items.rest.now _ c.in-Ok.read.2 _ c.in-Ok.read.3.now c.items.invariant.led c.items.invariant.low c.in-Ok.ensures.exact (omega (arith, c.max-height.ensures)))
+    list_answer (field_list (inside c.args.used)) (fields_line (inside c.args.used)) c.args.depth c.args.tokens.now c.items.list.items _ c.in-Ok.read.tree.field _ c.in-Ok.read.rest.now c.in-Some-end.close c.in-Ok-after_item.found.1.now
+    (item_as (field_list (inside c.args.used)) (fields_line (inside c.args.used)) c.args.depth c.args.tokens.now c.items.list.items c.items.height c.items.rest.now _ c.in-Ok.read.height _ c.in-Ok.read.rest.now c.items.invariant.led c.items.invariant.low c.in-Ok.ensures.exact (omega (arith, c.max-height.ensures)))
     c.in_ok-list.ensures (c.within.ensures.0 c.in-Ok-after_item.ensures.within)
-    (ended_by kind.CloseBrace c.in-Ok.read.3.now c.in-Ok-after_item.found.0 c.in-Some-end.close c.in-Ok-after_item.found.1.now c.in-Some-end.is c.in-Ok-after_item.ensures.ended)
+    (ended_by kind.CloseBrace c.in-Ok.read.rest.now c.in-Ok-after_item.found.0 c.in-Some-end.close c.in-Ok-after_item.found.1.now c.in-Some-end.is c.in-Ok-after_item.ensures.ended)
 
 pub fields::field_list-items-preserved : goal.fields::field_list-items-preserved
 fields::field_list-items-preserved t c = record {
   led =
-      list_goes_on (field_list (inside c.args.used)) (fields_line (inside c.args.used)) c.args.depth c.args.tokens.now c.items.list.items _ c.in-Ok.read.0 _ c.in-Ok.read.3.now c.in-Ok-after_item.found.1.now
-      (item_as (field_list (inside c.args.used)) (fields_line (inside c.args.used)) c.args.depth c.args.tokens.now c.items.list.items c.items.height c.items.rest.now _ c.in-Ok.read.2 _ c.in-Ok.read.3.now c.items.invariant.led c.items.invariant.low c.in-Ok.ensures.exact (omega (arith, c.max-height.ensures)))
+      list_goes_on (field_list (inside c.args.used)) (fields_line (inside c.args.used)) c.args.depth c.args.tokens.now c.items.list.items _ c.in-Ok.read.tree.field _ c.in-Ok.read.rest.now c.in-Ok-after_item.found.1.now
+      (item_as (field_list (inside c.args.used)) (fields_line (inside c.args.used)) c.args.depth c.args.tokens.now c.items.list.items c.items.height c.items.rest.now _ c.in-Ok.read.height _ c.in-Ok.read.rest.now c.items.invariant.led c.items.invariant.low c.in-Ok.ensures.exact (omega (arith, c.max-height.ensures)))
       c.in_ok-list.ensures (c.within.ensures.0 c.in-Ok-after_item.ensures.within)
-      (again_by kind.CloseBrace c.in-Ok.read.3.now c.in-Ok-after_item.found.0 c.in-Ok-after_item.found.1.now c.in-None.is c.in-Ok-after_item.ensures.again);
+      (again_by kind.CloseBrace c.in-Ok.read.rest.now c.in-Ok-after_item.found.0 c.in-Ok-after_item.found.1.now c.in-None.is c.in-Ok-after_item.ensures.again);
   short = let read = c.in-Ok.ensures.shorter in let more = c.in-Ok-after_item.ensures.shorter in let before = c.items.invariant.short in omega (arith, read, more, before);
   low = c.within.ensures.0 c.in-Ok-after_item.ensures.within;
 }
@@ -788,8 +788,8 @@ fields::field_list-items-preserved t c = record {
 pub fields::field_list-returns-in-Err-after_item-clause-exact : goal.fields::field_list-returns-in-Err-after_item-clause-exact
 fields::field_list-returns-in-Err-after_item-clause-exact t c =
     because (fields_line (inside c.args.used)) nothing_continues c.args.depth c.args.tokens.now c.in-Err-after_item.error c.discard_fields-in-Err-after_item.result c.discard_fields-in-Err-after_item.ensures
-    (list_stuck (field_list (inside c.args.used)) (fields_line (inside c.args.used)) c.args.depth c.args.tokens.now c.items.list.items (c.in-Ok.read.0.names.items, (c.in-Ok.read.1, type c.in-Ok.read.0.ty)) c.max-height.result c.in-Ok.read.3.now c.in-Err-after_item.error _
-    (item_as (field_list (inside c.args.used)) (fields_line (inside c.args.used)) c.args.depth c.args.tokens.now c.items.list.items c.items.height c.items.rest.now _ c.in-Ok.read.2 _ c.in-Ok.read.3.now c.items.invariant.led c.items.invariant.low c.in-Ok.ensures.exact (omega (arith, c.max-height.ensures)))
+    (list_stuck (field_list (inside c.args.used)) (fields_line (inside c.args.used)) c.args.depth c.args.tokens.now c.items.list.items (c.in-Ok.read.tree.field.names.items, (c.in-Ok.read.tree.colon, type c.in-Ok.read.tree.field.ty)) c.max-height.result c.in-Ok.read.rest.now c.in-Err-after_item.error _
+    (item_as (field_list (inside c.args.used)) (fields_line (inside c.args.used)) c.args.depth c.args.tokens.now c.items.list.items c.items.height c.items.rest.now _ c.in-Ok.read.height _ c.in-Ok.read.rest.now c.items.invariant.led c.items.invariant.low c.in-Ok.ensures.exact (omega (arith, c.max-height.ensures)))
     c.in-Err-after_item.ensures.refused (λ over. over_by _ _ _ c.within.ensures.1 over))
 
 pub fields::field-returns-in-Err-clause-exact : goal.fields::field-returns-in-Err-clause-exact
@@ -797,7 +797,7 @@ fields::field-returns-in-Err-clause-exact t c = field_unnamed (inside c.args.use
 
 pub fields::field-returns-in-Ok-ty-clause-exact : goal.fields::field-returns-in-Ok-ty-clause-exact
 fields::field-returns-in-Ok-ty-clause-exact t c =
-    field_answer (inside c.args.used) c.args.depth c.args.tokens.now c.in-Ok.read.0.items c.in-Ok.read.1 c.in-Ok.read.2.now (type c.in-Ok-ty.t) c.in-Ok-ty.height c.in-Ok-ty.rest.now (c.in-Ok.ensures.exact c.args.depth) c.in-Ok-ty.ensures.exact
+    field_answer (inside c.args.used) c.args.depth c.args.tokens.now c.in-Ok.read.0.items c.in-Ok.read.1 c.in-Ok.read.2.now (type c.in-Ok-ty.field-0.tree) c.in-Ok-ty.field-0.height c.in-Ok-ty.field-0.rest.now (c.in-Ok.ensures.exact c.args.depth) c.in-Ok-ty.ensures.exact
 
 pub fields::field-returns-in-Err-ty-clause-exact : goal.fields::field-returns-in-Err-ty-clause-exact
 fields::field-returns-in-Err-ty-clause-exact t c =
@@ -820,18 +820,18 @@ fields::type_list-returns-in-Err-clause-exact t c =
 
 pub fields::type_list-returns-in-Some-end-clause-exact : goal.fields::type_list-returns-in-Some-end-clause-exact
 fields::type_list-returns-in-Some-end-clause-exact t c =
-    list_answer (type_list (inside c.args.used)) (types_line (inside c.args.used)) c.args.depth c.args.tokens.now c.items.list.items _ c.in-Ok.read.0 _ c.in-Ok.read.2.now c.in-Some-end.close c.in-Ok-after_item.found.1.now
-    (item_as (type_list (inside c.args.used)) (types_line (inside c.args.used)) c.args.depth c.args.tokens.now c.items.list.items c.items.height c.items.rest.now _ c.in-Ok.read.1 _ c.in-Ok.read.2.now c.items.invariant.led c.items.invariant.low c.in-Ok.ensures.exact (omega (arith, c.max-height.ensures)))
+    list_answer (type_list (inside c.args.used)) (types_line (inside c.args.used)) c.args.depth c.args.tokens.now c.items.list.items _ c.in-Ok.read.tree _ c.in-Ok.read.rest.now c.in-Some-end.close c.in-Ok-after_item.found.1.now
+    (item_as (type_list (inside c.args.used)) (types_line (inside c.args.used)) c.args.depth c.args.tokens.now c.items.list.items c.items.height c.items.rest.now _ c.in-Ok.read.height _ c.in-Ok.read.rest.now c.items.invariant.led c.items.invariant.low c.in-Ok.ensures.exact (omega (arith, c.max-height.ensures)))
     c.in_ok-list.ensures (c.within.ensures.0 c.in-Ok-after_item.ensures.within)
-    (ended_by kind.CloseBrace c.in-Ok.read.2.now c.in-Ok-after_item.found.0 c.in-Some-end.close c.in-Ok-after_item.found.1.now c.in-Some-end.is c.in-Ok-after_item.ensures.ended)
+    (ended_by kind.CloseBrace c.in-Ok.read.rest.now c.in-Ok-after_item.found.0 c.in-Some-end.close c.in-Ok-after_item.found.1.now c.in-Some-end.is c.in-Ok-after_item.ensures.ended)
 
 pub fields::type_list-items-preserved : goal.fields::type_list-items-preserved
 fields::type_list-items-preserved t c = record {
   led =
-      list_goes_on (type_list (inside c.args.used)) (types_line (inside c.args.used)) c.args.depth c.args.tokens.now c.items.list.items _ c.in-Ok.read.0 _ c.in-Ok.read.2.now c.in-Ok-after_item.found.1.now
-      (item_as (type_list (inside c.args.used)) (types_line (inside c.args.used)) c.args.depth c.args.tokens.now c.items.list.items c.items.height c.items.rest.now _ c.in-Ok.read.1 _ c.in-Ok.read.2.now c.items.invariant.led c.items.invariant.low c.in-Ok.ensures.exact (omega (arith, c.max-height.ensures)))
+      list_goes_on (type_list (inside c.args.used)) (types_line (inside c.args.used)) c.args.depth c.args.tokens.now c.items.list.items _ c.in-Ok.read.tree _ c.in-Ok.read.rest.now c.in-Ok-after_item.found.1.now
+      (item_as (type_list (inside c.args.used)) (types_line (inside c.args.used)) c.args.depth c.args.tokens.now c.items.list.items c.items.height c.items.rest.now _ c.in-Ok.read.height _ c.in-Ok.read.rest.now c.items.invariant.led c.items.invariant.low c.in-Ok.ensures.exact (omega (arith, c.max-height.ensures)))
       c.in_ok-list.ensures (c.within.ensures.0 c.in-Ok-after_item.ensures.within)
-      (again_by kind.CloseBrace c.in-Ok.read.2.now c.in-Ok-after_item.found.0 c.in-Ok-after_item.found.1.now c.in-None.is c.in-Ok-after_item.ensures.again);
+      (again_by kind.CloseBrace c.in-Ok.read.rest.now c.in-Ok-after_item.found.0 c.in-Ok-after_item.found.1.now c.in-None.is c.in-Ok-after_item.ensures.again);
   short = let read = c.in-Ok.ensures.shorter in let more = c.in-Ok-after_item.ensures.shorter in let before = c.items.invariant.short in omega (arith, read, more, before);
   low = c.within.ensures.0 c.in-Ok-after_item.ensures.within;
 }
@@ -839,8 +839,8 @@ fields::type_list-items-preserved t c = record {
 pub fields::type_list-returns-in-Err-after_item-clause-exact : goal.fields::type_list-returns-in-Err-after_item-clause-exact
 fields::type_list-returns-in-Err-after_item-clause-exact t c =
     because (types_line (inside c.args.used)) nothing_continues c.args.depth c.args.tokens.now c.in-Err-after_item.error c.discard_types-in-Err-after_item.result c.discard_types-in-Err-after_item.ensures
-    (list_stuck (type_list (inside c.args.used)) (types_line (inside c.args.used)) c.args.depth c.args.tokens.now c.items.list.items _ c.max-height.result c.in-Ok.read.2.now c.in-Err-after_item.error _
-    (item_as (type_list (inside c.args.used)) (types_line (inside c.args.used)) c.args.depth c.args.tokens.now c.items.list.items c.items.height c.items.rest.now _ c.in-Ok.read.1 _ c.in-Ok.read.2.now c.items.invariant.led c.items.invariant.low c.in-Ok.ensures.exact (omega (arith, c.max-height.ensures)))
+    (list_stuck (type_list (inside c.args.used)) (types_line (inside c.args.used)) c.args.depth c.args.tokens.now c.items.list.items _ c.max-height.result c.in-Ok.read.rest.now c.in-Err-after_item.error _
+    (item_as (type_list (inside c.args.used)) (types_line (inside c.args.used)) c.args.depth c.args.tokens.now c.items.list.items c.items.height c.items.rest.now _ c.in-Ok.read.height _ c.in-Ok.read.rest.now c.items.invariant.led c.items.invariant.low c.in-Ok.ensures.exact (omega (arith, c.max-height.ensures)))
     c.in-Err-after_item.ensures.refused (λ over. over_by _ _ _ c.within.ensures.1 over))
 
 pub fields::enumerator_list-returns-in-Some-clause-exact : goal.fields::enumerator_list-returns-in-Some-clause-exact
@@ -860,18 +860,18 @@ fields::enumerator_list-returns-in-Err-clause-exact t c =
 
 pub fields::enumerator_list-returns-in-Some-end-clause-exact : goal.fields::enumerator_list-returns-in-Some-end-clause-exact
 fields::enumerator_list-returns-in-Some-end-clause-exact t c =
-    list_answer enumerator_list enumerators_line c.args.depth c.args.tokens.now c.items.list.items _ c.in-Ok.read.0 _ c.in-Ok.read.2.now c.in-Some-end.close c.in-Ok-after_item.found.1.now
-    (item_as enumerator_list enumerators_line c.args.depth c.args.tokens.now c.items.list.items c.items.height c.items.rest.now _ c.in-Ok.read.1 _ c.in-Ok.read.2.now c.items.invariant.led c.items.invariant.low c.in-Ok.ensures.exact (omega (arith, c.max-height.ensures)))
+    list_answer enumerator_list enumerators_line c.args.depth c.args.tokens.now c.items.list.items _ c.in-Ok.read.tree _ c.in-Ok.read.rest.now c.in-Some-end.close c.in-Ok-after_item.found.1.now
+    (item_as enumerator_list enumerators_line c.args.depth c.args.tokens.now c.items.list.items c.items.height c.items.rest.now _ c.in-Ok.read.height _ c.in-Ok.read.rest.now c.items.invariant.led c.items.invariant.low c.in-Ok.ensures.exact (omega (arith, c.max-height.ensures)))
     c.in_ok-list.ensures (c.within.ensures.0 c.in-Ok-after_item.ensures.within)
-    (ended_by kind.CloseBrace c.in-Ok.read.2.now c.in-Ok-after_item.found.0 c.in-Some-end.close c.in-Ok-after_item.found.1.now c.in-Some-end.is c.in-Ok-after_item.ensures.ended)
+    (ended_by kind.CloseBrace c.in-Ok.read.rest.now c.in-Ok-after_item.found.0 c.in-Some-end.close c.in-Ok-after_item.found.1.now c.in-Some-end.is c.in-Ok-after_item.ensures.ended)
 
 pub fields::enumerator_list-items-preserved : goal.fields::enumerator_list-items-preserved
 fields::enumerator_list-items-preserved t c = record {
   led =
-      list_goes_on enumerator_list enumerators_line c.args.depth c.args.tokens.now c.items.list.items _ c.in-Ok.read.0 _ c.in-Ok.read.2.now c.in-Ok-after_item.found.1.now
-      (item_as enumerator_list enumerators_line c.args.depth c.args.tokens.now c.items.list.items c.items.height c.items.rest.now _ c.in-Ok.read.1 _ c.in-Ok.read.2.now c.items.invariant.led c.items.invariant.low c.in-Ok.ensures.exact (omega (arith, c.max-height.ensures)))
+      list_goes_on enumerator_list enumerators_line c.args.depth c.args.tokens.now c.items.list.items _ c.in-Ok.read.tree _ c.in-Ok.read.rest.now c.in-Ok-after_item.found.1.now
+      (item_as enumerator_list enumerators_line c.args.depth c.args.tokens.now c.items.list.items c.items.height c.items.rest.now _ c.in-Ok.read.height _ c.in-Ok.read.rest.now c.items.invariant.led c.items.invariant.low c.in-Ok.ensures.exact (omega (arith, c.max-height.ensures)))
       c.in_ok-list.ensures (c.within.ensures.0 c.in-Ok-after_item.ensures.within)
-      (again_by kind.CloseBrace c.in-Ok.read.2.now c.in-Ok-after_item.found.0 c.in-Ok-after_item.found.1.now c.in-None.is c.in-Ok-after_item.ensures.again);
+      (again_by kind.CloseBrace c.in-Ok.read.rest.now c.in-Ok-after_item.found.0 c.in-Ok-after_item.found.1.now c.in-None.is c.in-Ok-after_item.ensures.again);
   short = let read = c.in-Ok.ensures.shorter in let more = c.in-Ok-after_item.ensures.shorter in let before = c.items.invariant.short in omega (arith, read, more, before);
   low = c.within.ensures.0 c.in-Ok-after_item.ensures.within;
 }
@@ -879,8 +879,8 @@ fields::enumerator_list-items-preserved t c = record {
 pub fields::enumerator_list-returns-in-Err-after_item-clause-exact : goal.fields::enumerator_list-returns-in-Err-after_item-clause-exact
 fields::enumerator_list-returns-in-Err-after_item-clause-exact t c =
     because enumerators_line nothing_continues c.args.depth c.args.tokens.now c.in-Err-after_item.error c.discard_enumerators-in-Err-after_item.result c.discard_enumerators-in-Err-after_item.ensures
-    (list_stuck enumerator_list enumerators_line c.args.depth c.args.tokens.now c.items.list.items _ c.max-height.result c.in-Ok.read.2.now c.in-Err-after_item.error _
-    (item_as enumerator_list enumerators_line c.args.depth c.args.tokens.now c.items.list.items c.items.height c.items.rest.now _ c.in-Ok.read.1 _ c.in-Ok.read.2.now c.items.invariant.led c.items.invariant.low c.in-Ok.ensures.exact (omega (arith, c.max-height.ensures)))
+    (list_stuck enumerator_list enumerators_line c.args.depth c.args.tokens.now c.items.list.items _ c.max-height.result c.in-Ok.read.rest.now c.in-Err-after_item.error _
+    (item_as enumerator_list enumerators_line c.args.depth c.args.tokens.now c.items.list.items c.items.height c.items.rest.now _ c.in-Ok.read.height _ c.in-Ok.read.rest.now c.items.invariant.led c.items.invariant.low c.in-Ok.ensures.exact (omega (arith, c.max-height.ensures)))
     c.in-Err-after_item.ensures.refused (λ over. over_by _ _ _ c.within.ensures.1 over))
 
 pub fields::enum_type-returns-in-Err-clause-exact : goal.fields::enum_type-returns-in-Err-clause-exact
@@ -888,13 +888,13 @@ fields::enum_type-returns-in-Err-clause-exact t c = λ e. enum_base_refused c.ar
 
 pub fields::enum_type-returns-in_ok-enumeration-in-Ok-enumerator_list-clause-exact : goal.fields::enum_type-returns-in_ok-enumeration-in-Ok-enumerator_list-clause-exact
 fields::enum_type-returns-in_ok-enumeration-in-Ok-enumerator_list-clause-exact t c = λ e.
-    enum_answer c.args.used c.args.depth c.args.token c.args.behind.now (maybe_type c.in-Ok.read.0, (c.in-Ok.read.1, tt)) c.in-Ok.read.2 c.in-Ok.read.3.now (enumerators c.in-Ok-enumerator_list.list.items, (c.in-Ok-enumerator_list._close, tt)) c.in-Ok-enumerator_list.m c.in-Ok-enumerator_list.rest.now _ _
+    enum_answer c.args.used c.args.depth c.args.token c.args.behind.now (maybe_type c.in-Ok.read.tree.part, (c.in-Ok.read.tree.close, tt)) c.in-Ok.read.height c.in-Ok.read.rest.now (enumerators c.in-Ok-enumerator_list.read.tree.part.items, (c.in-Ok-enumerator_list.read.tree.close, tt)) c.in-Ok-enumerator_list.read.height c.in-Ok-enumerator_list.read.rest.now _ _
     e c.in-Ok.ensures.exact c.in-Ok.ensures.low c.in-Ok-enumerator_list.ensures.exact c.in_ok-enumeration-in-Ok-enumerator_list.ensures (omega (arith, c.max.ensures))
 
 pub fields::enum_type-returns-in-Err-enumerator_list-clause-exact : goal.fields::enum_type-returns-in-Err-enumerator_list-clause-exact
 fields::enum_type-returns-in-Err-enumerator_list-clause-exact t c = λ e.
     because_as c.args.used (one (g.constructed c.args.used)) (suc c.args.depth) _ c.in-Err-enumerator_list.error c.discard_optional_type.result c.discard_optional_type.ensures
-    (enum_refused c.args.used c.args.depth c.args.token c.args.behind.now (maybe_type c.in-Ok.read.0, (c.in-Ok.read.1, tt)) c.in-Ok.read.2 c.in-Ok.read.3.now c.in-Err-enumerator_list.error e c.in-Ok.ensures.exact c.in-Ok.ensures.low c.in-Err-enumerator_list.ensures.exact)
+    (enum_refused c.args.used c.args.depth c.args.token c.args.behind.now (maybe_type c.in-Ok.read.tree.part, (c.in-Ok.read.tree.close, tt)) c.in-Ok.read.height c.in-Ok.read.rest.now c.in-Err-enumerator_list.error e c.in-Ok.ensures.exact c.in-Ok.ensures.low c.in-Err-enumerator_list.ensures.exact)
 
 pub fields::base_type-returns-in-Some-clause-exact : goal.fields::base_type-returns-in-Some-clause-exact
 fields::base_type-returns-in-Some-clause-exact t c = base_none (inside c.args.used) c.args.depth c.in-Some.open c.args.tokens.now c.in-Some.inner.now c.in-Some.ensures.is c.in-Some.ensures.kind
@@ -908,11 +908,11 @@ fields::base-returns-in-Err-clause-exact t c = λ none. base_refused (inside c.a
 pub fields::base-returns-in-Err-expect-clause-exact : goal.fields::base-returns-in-Err-expect-clause-exact
 fields::base-returns-in-Err-expect-clause-exact t c = λ none.
     because (base_line (inside c.args.used)) nothing_continues c.args.depth c.args.tokens.now c.in-Err-expect.error c.discard_type.result c.discard_type.ensures
-    (base_unopened (inside c.args.used) c.args.depth c.args.tokens.now (type c.in-Ok.read.0) c.in-Ok.read.1 c.in-Ok.read.2.now c.in-Err-expect.error _ none c.in-Ok.ensures.exact (λ over. over_by _ _ _ c.within.ensures.1 over) c.in-Err-expect.ensures.refused)
+    (base_unopened (inside c.args.used) c.args.depth c.args.tokens.now (type c.in-Ok.read.tree) c.in-Ok.read.height c.in-Ok.read.rest.now c.in-Err-expect.error _ none c.in-Ok.ensures.exact (λ over. over_by _ _ _ c.within.ensures.1 over) c.in-Err-expect.ensures.refused)
 
 pub fields::base-returns-in-Ok-expect-clause-exact : goal.fields::base-returns-in-Ok-expect-clause-exact
 fields::base-returns-in-Ok-expect-clause-exact t c = λ none.
-    base_answer (inside c.args.used) c.args.depth c.args.tokens.now (type c.in-Ok.read.0) c.in-Ok.read.1 c.in-Ok.read.2.now c.in-Ok-expect.open c.in-Ok-expect.inner.now _ none c.in-Ok.ensures.exact (c.within.ensures.0 c.in-Ok-expect.ensures.within) c.in-Ok-expect.ensures.is c.in-Ok-expect.ensures.kind refl
+    base_answer (inside c.args.used) c.args.depth c.args.tokens.now (type c.in-Ok.read.tree) c.in-Ok.read.height c.in-Ok.read.rest.now c.in-Ok-expect.open c.in-Ok-expect.inner.now _ none c.in-Ok.ensures.exact (c.within.ensures.0 c.in-Ok-expect.ensures.within) c.in-Ok-expect.ensures.is c.in-Ok-expect.ensures.kind refl
 
 pub fields::enumerator-returns-in-Err-clause-exact : goal.fields::enumerator-returns-in-Err-clause-exact
 fields::enumerator-returns-in-Err-clause-exact t c = enumerator_unnamed c.args.depth c.args.tokens.now c.in-Err.error c.in-Err.ensures.refused
@@ -922,7 +922,7 @@ fields::enumerator-returns-in-Err-given-clause-exact t c = enumerator_refused c.
 
 pub fields::given-returns-in-Ok-clause-exact : goal.fields::given-returns-in-Ok-clause-exact
 fields::given-returns-in-Ok-clause-exact t c =
-    given_answer c.args.depth c.in-Some._assign c.args.tokens.now c.in-Some.behind.now (expr c.in-Ok.e) c.in-Ok.height c.in-Ok.rest.now _ c.in-Some.ensures.is c.in-Some.ensures.kind c.in-Ok.ensures.exact refl
+    given_answer c.args.depth c.in-Some._assign c.args.tokens.now c.in-Some.behind.now (expr c.in-Ok.field-0.tree) c.in-Ok.field-0.height c.in-Ok.field-0.rest.now _ c.in-Some.ensures.is c.in-Some.ensures.kind c.in-Ok.ensures.exact refl
 
 pub fields::given-returns-in-Err-clause-exact : goal.fields::given-returns-in-Err-clause-exact
 fields::given-returns-in-Err-clause-exact t c = given_refused c.args.depth c.in-Some._assign c.args.tokens.now c.in-Some.behind.now c.in-Err.error c.in-Some.ensures.is c.in-Some.ensures.kind c.in-Err.ensures.exact
@@ -940,7 +940,7 @@ signatures::results-returns-in-Some-strip-2-clause-exact t c =
 
 pub signatures::results-returns-in-Ok-clause-exact : goal.signatures::results-returns-in-Ok-clause-exact
 signatures::results-returns-in-Ok-clause-exact t c =
-    results_answer c.args.used c.args.depth c.in-Some.found.0 c.in-Some-strip._open c.args.tokens.now c.in-Some.found.1.now c.in-Some-strip.inner.now (params c.in-Ok.list.items, (c.in-Ok._close, tt)) c.in-Ok.height c.in-Ok.rest.now _
+    results_answer c.args.used c.args.depth c.in-Some.found.0 c.in-Some-strip._open c.args.tokens.now c.in-Some.found.1.now c.in-Some-strip.inner.now (params c.in-Ok.read.tree.part.items, (c.in-Ok.read.tree.close, tt)) c.in-Ok.read.height c.in-Ok.read.rest.now _
     c.in-Some.ensures.is c.in-Some.ensures.kind c.in-Some-strip.ensures.is c.in-Some-strip.ensures.kind c.in-None-strip-2.ensures.none c.in-Ok.ensures.exact refl
 
 pub signatures::results-returns-in-Err-clause-exact : goal.signatures::results-returns-in-Err-clause-exact
@@ -949,7 +949,7 @@ signatures::results-returns-in-Err-clause-exact t c =
 
 pub signatures::results-returns-in-Ok-type_to-clause-exact : goal.signatures::results-returns-in-Ok-type_to-clause-exact
 signatures::results-returns-in-Ok-type_to-clause-exact t c =
-    result_answer c.args.used c.at_end.result c.args.depth c.in-Some.found.0 c.args.tokens.now c.in-Some.found.1.now (type c.in-Ok-type_to.t) c.in-Ok-type_to.height c.in-Ok-type_to.rest.now c.in-Ok-type_to.end _
+    result_answer c.args.used c.at_end.result c.args.depth c.in-Some.found.0 c.args.tokens.now c.in-Some.found.1.now (type c.in-Ok-type_to.field-0.tree) c.in-Ok-type_to.field-0.height c.in-Ok-type_to.field-0.rest.now c.in-Ok-type_to.field-0.end _
     c.at_end.ensures c.in-Some.ensures.is c.in-Some.ensures.kind c.in-None-strip.ensures.none c.in-Ok-type_to.ensures.exact refl
 
 pub signatures::results-returns-in-Err-type_to-clause-exact : goal.signatures::results-returns-in-Err-type_to-clause-exact
@@ -967,47 +967,47 @@ signatures::signature-returns-in-Err-params-clause-exact t c = λ e.
 pub signatures::signature-returns-in-Err-results-clause-exact : goal.signatures::signature-returns-in-Err-results-clause-exact
 signatures::signature-returns-in-Err-results-clause-exact t c = λ e.
     because_as c.args.used (one (g.sig c.args.used)) c.args.depth _ c.in-Err-results.error c.discard_params.result c.discard_params.ensures
-    (signature_results_refused c.args.used c.args.depth c.args.proc c.args.behind.now c.convention-convention.result.0 c.in-Ok.found.1.now (params c.in-Ok-params.read.0.items, (c.in-Ok-params.read.1, tt)) c.in-Ok-params.read.2 c.in-Ok-params.read.3.now c.in-Err-results.error
+    (signature_results_refused c.args.used c.args.depth c.args.proc c.args.behind.now c.convention-convention.result.0 c.in-Ok.found.1.now (params c.in-Ok-params.read.tree.part.items, (c.in-Ok-params.read.tree.close, tt)) c.in-Ok-params.read.height c.in-Ok-params.read.rest.now c.in-Err-results.error
     (record { proc = e; open_ = c.in-Ok.found.0; after = c.convention-convention.result.1.now; convention = c.convention-convention.ensures.is; is = c.in-Ok.ensures.is; paren = c.in-Ok.ensures.kind }) c.in-Ok-params.ensures.exact c.in-Ok-params.ensures.low c.in-Err-results.ensures.exact)
 
 pub signatures::signature-returns-in-Ok-results-clause-exact : goal.signatures::signature-returns-in-Ok-results-clause-exact
 signatures::signature-returns-in-Ok-results-clause-exact t c = λ e.
-    signature_answer c.args.used c.args.depth c.args.proc c.args.behind.now c.convention-convention.result.0 c.in-Ok.found.1.now (params c.in-Ok-params.read.0.items, (c.in-Ok-params.read.1, tt)) c.in-Ok-params.read.2 c.in-Ok-params.read.3.now
-    (result_kind c.in-Ok-results.given) c.in-Ok-results.m c.in-Ok-results.last.now c.in-Ok-results.end _ _
+    signature_answer c.args.used c.args.depth c.args.proc c.args.behind.now c.convention-convention.result.0 c.in-Ok.found.1.now (params c.in-Ok-params.read.tree.part.items, (c.in-Ok-params.read.tree.close, tt)) c.in-Ok-params.read.height c.in-Ok-params.read.rest.now
+    (result_kind c.in-Ok-results.field-0.tree) c.in-Ok-results.field-0.height c.in-Ok-results.field-0.rest.now c.in-Ok-results.field-0.end _ _
     (record { proc = e; open_ = c.in-Ok.found.0; after = c.convention-convention.result.1.now; convention = c.convention-convention.ensures.is; is = c.in-Ok.ensures.is; paren = c.in-Ok.ensures.kind }) c.in-Ok-params.ensures.exact c.in-Ok-params.ensures.low c.in-Ok-results.ensures.exact
     c.signature.ensures (omega (arith, c.max.ensures))
 
 pub types::group-returns-in-Ok-expect-clause-exact : goal.types::group-returns-in-Ok-expect-clause-exact
 types::group-returns-in-Ok-expect-clause-exact t c = λ e.
-    group_type_answer c.args.used c.args.depth c.args.paren c.in-Ok-expect._close c.args.behind.now (type c.in-Ok.read.0) c.in-Ok.read.1 _ c.in-Ok.read.2.now c.in-Ok-expect.rest.now e c.in-Ok.ensures.exact (c.within.ensures.0 c.in-Ok-expect.ensures.within) c.in-Ok-expect.ensures.is c.in-Ok-expect.ensures.kind (omega arith)
+    group_type_answer c.args.used c.args.depth c.args.paren c.in-Ok-expect._close c.args.behind.now (type c.in-Ok.read.tree) c.in-Ok.read.height _ c.in-Ok.read.rest.now c.in-Ok-expect.rest.now e c.in-Ok.ensures.exact (c.within.ensures.0 c.in-Ok-expect.ensures.within) c.in-Ok-expect.ensures.is c.in-Ok-expect.ensures.kind (omega arith)
 
 pub types::group-returns-in-Err-expect-clause-exact : goal.types::group-returns-in-Err-expect-clause-exact
 types::group-returns-in-Err-expect-clause-exact t c = λ e.
     because_as c.args.used (one (g.type_ c.args.used)) (suc c.args.depth) _ c.in-Err-expect.error c.discard_type.result c.discard_type.ensures
-    (group_type_unclosed c.args.used c.args.depth c.args.paren c.args.behind.now (type c.in-Ok.read.0) c.in-Ok.read.1 c.in-Ok.read.2.now c.in-Err-expect.error _ e c.in-Ok.ensures.exact (λ over. over_by _ _ _ c.within.ensures.1 over) c.in-Err-expect.ensures.refused)
+    (group_type_unclosed c.args.used c.args.depth c.args.paren c.args.behind.now (type c.in-Ok.read.tree) c.in-Ok.read.height c.in-Ok.read.rest.now c.in-Err-expect.error _ e c.in-Ok.ensures.exact (λ over. over_by _ _ _ c.within.ensures.1 over) c.in-Err-expect.ensures.refused)
 
 pub arrays::counted-returns-else-counts-clause-exact : goal.arrays::counted-returns-else-counts-clause-exact
 arrays::counted-returns-else-counts-clause-exact t c = λ ts z.
-    because_as c.args.used (one (g.constructed c.args.used)) (suc c.args.depth) ts (stop.Syntax (length c.in-Ok-ty.read.2.now)) c.discard_type.result c.discard_type.ensures
-    (counted_broken c.args.used c.args.shape c.args.at c.args.depth ts c.args.tokens.now c.in-Ok.found.0 c.in-Ok.found.1.now (type c.in-Ok-ty.read.0) c.in-Ok-ty.read.1 c.in-Ok-ty.read.2.now z c.in-Ok.ensures.is c.in-Ok.ensures.kind c.in-Ok-ty.ensures.exact (sym c.counts.ensures ∙ c.if-counts.false))
+    because_as c.args.used (one (g.constructed c.args.used)) (suc c.args.depth) ts (stop.Syntax (length c.in-Ok-ty.read.rest.now)) c.discard_type.result c.discard_type.ensures
+    (counted_broken c.args.used c.args.shape c.args.at c.args.depth ts c.args.tokens.now c.in-Ok.found.0 c.in-Ok.found.1.now (type c.in-Ok-ty.read.tree) c.in-Ok-ty.read.height c.in-Ok-ty.read.rest.now z c.in-Ok.ensures.is c.in-Ok.ensures.kind c.in-Ok-ty.ensures.exact (sym c.counts.ensures ∙ c.if-counts.false))
 
 pub arrays::counted-returns-in_ok-bracketed-clause-exact : goal.arrays::counted-returns-in_ok-bracketed-clause-exact
 arrays::counted-returns-in_ok-bracketed-clause-exact t c = λ ts z.
-    counted_answer c.args.used c.args.shape c.args.at c.args.depth ts c.args.tokens.now c.in-Ok.found.0 c.in-Ok.found.1.now (type c.in-Ok-ty.read.0) c.in-Ok-ty.read.1 c.in-Ok-ty.read.2.now _ _ z c.in-Ok.ensures.is c.in-Ok.ensures.kind c.in-Ok-ty.ensures.exact c.in-Ok-ty.ensures.low
+    counted_answer c.args.used c.args.shape c.args.at c.args.depth ts c.args.tokens.now c.in-Ok.found.0 c.in-Ok.found.1.now (type c.in-Ok-ty.read.tree) c.in-Ok-ty.read.height c.in-Ok-ty.read.rest.now _ _ z c.in-Ok.ensures.is c.in-Ok.ensures.kind c.in-Ok-ty.ensures.exact c.in-Ok-ty.ensures.low
     (sym c.counts.ensures ∙ c.if-counts.true) c.in_ok-bracketed.ensures (omega arith)
 
 pub arrays::fixed-returns-in-Ok-expect-clause-exact : goal.arrays::fixed-returns-in-Ok-expect-clause-exact
 arrays::fixed-returns-in-Ok-expect-clause-exact t c = λ f d o.
-    fixed_answer c.args.used c.args.depth c.in-Ok-expect.close c.args.tokens.now (expr c.in-Ok.read.0) c.in-Ok.read.1 c.in-Ok.read.2.now c.in-Ok-expect.rest.now f d o c.in-Ok.ensures.exact (c.within.ensures.0 c.in-Ok-expect.ensures.within) c.in-Ok-expect.ensures.is c.in-Ok-expect.ensures.kind
+    fixed_answer c.args.used c.args.depth c.in-Ok-expect.close c.args.tokens.now (expr c.in-Ok.read.tree) c.in-Ok.read.height c.in-Ok.read.rest.now c.in-Ok-expect.rest.now f d o c.in-Ok.ensures.exact (c.within.ensures.0 c.in-Ok-expect.ensures.within) c.in-Ok-expect.ensures.is c.in-Ok-expect.ensures.kind
 
 pub arrays::fixed-returns-in-Err-expect-clause-exact : goal.arrays::fixed-returns-in-Err-expect-clause-exact
 arrays::fixed-returns-in-Err-expect-clause-exact t c = λ f d o.
     because (length_line c.args.used) nothing_continues c.args.depth c.args.tokens.now c.in-Err-expect.error c.discard_expr.result c.discard_expr.ensures
-    (fixed_unclosed c.args.used c.args.depth c.args.tokens.now (expr c.in-Ok.read.0) c.in-Ok.read.1 c.in-Ok.read.2.now c.in-Err-expect.error _ f d o c.in-Ok.ensures.exact (λ over. over_by _ _ _ c.within.ensures.1 over) c.in-Err-expect.ensures.refused)
+    (fixed_unclosed c.args.used c.args.depth c.args.tokens.now (expr c.in-Ok.read.tree) c.in-Ok.read.height c.in-Ok.read.rest.now c.in-Err-expect.error _ f d o c.in-Ok.ensures.exact (λ over. over_by _ _ _ c.within.ensures.1 over) c.in-Err-expect.ensures.refused)
 
 pub fields::enumerator-returns-in-Ok-given-clause-exact : goal.fields::enumerator-returns-in-Ok-given-clause-exact
 fields::enumerator-returns-in-Ok-given-clause-exact t c =
-    enumerator_answer c.args.depth c.in-Ok.found.0 c.args.tokens.now c.in-Ok.found.1.now (maybe_expr c.in-Ok-given.value) c.in-Ok-given.height c.in-Ok-given.rest.now c.in-Ok.ensures.is c.in-Ok.ensures.kind c.in-Ok-given.ensures.exact
+    enumerator_answer c.args.depth c.in-Ok.found.0 c.args.tokens.now c.in-Ok.found.1.now (maybe_expr c.in-Ok-given.field-0.tree) c.in-Ok-given.field-0.height c.in-Ok-given.field-0.rest.now c.in-Ok.ensures.is c.in-Ok.ensures.kind c.in-Ok-given.ensures.exact
 
 -- parameters
 pub params::params-returns-in-Ok-clause-exact : goal.params::params-returns-in-Ok-clause-exact
@@ -1035,8 +1035,8 @@ params::params-returns-else-depth-eq0-clause-exact t c =
 pub params::crossed-returns-in-Ok-clause-exact : goal.params::crossed-returns-in-Ok-clause-exact
 params::crossed-returns-in-Ok-clause-exact t c = λ us f b less.
     because (params_line (inside c.args.used)) nothing_continues 0 c.args.tokens.now (stop.Deep (length c.args.at.now - 1)) c.discard_params.result (c.discard_params.ensures ∙ ap stop.Deep (omega (arith, c.saturating_sub.ensures)))
-    (crossed_found (inside c.args.used) (params c.in-Ok.list.items, (c.in-Ok._close, tt)) c.in-Ok._height c.in-Ok._rest.now f b less c.in-Ok.ensures.exact
-    (found_near (inside c.args.used) (takes_dot c.args.used) (params c.in-Ok.list.items, (c.in-Ok._close, tt)) c.in-Ok._height c.in-Ok._rest.now f b c.in-Ok.ensures.exact))
+    (crossed_found (inside c.args.used) (params c.in-Ok.field-0.tree.part.items, (c.in-Ok.field-0.tree.close, tt)) c.in-Ok.field-0.height c.in-Ok.field-0.rest.now f b less c.in-Ok.ensures.exact
+    (found_near (inside c.args.used) (takes_dot c.args.used) (params c.in-Ok.field-0.tree.part.items, (c.in-Ok.field-0.tree.close, tt)) c.in-Ok.field-0.height c.in-Ok.field-0.rest.now f b c.in-Ok.ensures.exact))
 
 pub params::crossed-returns-in-Err-clause-exact : goal.params::crossed-returns-in-Err-clause-exact
 params::crossed-returns-in-Err-clause-exact t c = λ us f b less.
@@ -1056,18 +1056,18 @@ params::named_list-returns-in-Err-clause-exact t c = λ some.
 
 pub params::named_list-returns-in-Some-clause-exact : goal.params::named_list-returns-in-Some-clause-exact
 params::named_list-returns-in-Some-clause-exact t c = λ some.
-    list_answer (named_list (inside c.args.used)) (named_line (inside c.args.used)) c.args.depth c.args.tokens.now c.items.list.items _ c.in-Ok.read.0 _ c.in-Ok.read.2.now c.in-Some.close c.in-Ok-after_item.found.1.now
-    (item_as (named_list (inside c.args.used)) (named_line (inside c.args.used)) c.args.depth c.args.tokens.now c.items.list.items c.items.height c.items.rest.now _ c.in-Ok.read.1 _ c.in-Ok.read.2.now (c.items.invariant.led some) c.items.invariant.low c.in-Ok.ensures.exact (omega (arith, c.max-height.ensures)))
+    list_answer (named_list (inside c.args.used)) (named_line (inside c.args.used)) c.args.depth c.args.tokens.now c.items.list.items _ c.in-Ok.read.tree _ c.in-Ok.read.rest.now c.in-Some.close c.in-Ok-after_item.found.1.now
+    (item_as (named_list (inside c.args.used)) (named_line (inside c.args.used)) c.args.depth c.args.tokens.now c.items.list.items c.items.height c.items.rest.now _ c.in-Ok.read.height _ c.in-Ok.read.rest.now (c.items.invariant.led some) c.items.invariant.low c.in-Ok.ensures.exact (omega (arith, c.max-height.ensures)))
     c.in_ok-list.ensures (c.within.ensures.0 c.in-Ok-after_item.ensures.within)
-    (ended_by kind.CloseParen c.in-Ok.read.2.now c.in-Ok-after_item.found.0 c.in-Some.close c.in-Ok-after_item.found.1.now c.in-Some.is c.in-Ok-after_item.ensures.ended)
+    (ended_by kind.CloseParen c.in-Ok.read.rest.now c.in-Ok-after_item.found.0 c.in-Some.close c.in-Ok-after_item.found.1.now c.in-Some.is c.in-Ok-after_item.ensures.ended)
 
 pub params::named_list-items-preserved : goal.params::named_list-items-preserved
 params::named_list-items-preserved t c = record {
   led = λ some.
-      list_goes_on (named_list (inside c.args.used)) (named_line (inside c.args.used)) c.args.depth c.args.tokens.now c.items.list.items _ c.in-Ok.read.0 _ c.in-Ok.read.2.now c.in-Ok-after_item.found.1.now
-      (item_as (named_list (inside c.args.used)) (named_line (inside c.args.used)) c.args.depth c.args.tokens.now c.items.list.items c.items.height c.items.rest.now _ c.in-Ok.read.1 _ c.in-Ok.read.2.now (c.items.invariant.led some) c.items.invariant.low c.in-Ok.ensures.exact (omega (arith, c.max-height.ensures)))
+      list_goes_on (named_list (inside c.args.used)) (named_line (inside c.args.used)) c.args.depth c.args.tokens.now c.items.list.items _ c.in-Ok.read.tree _ c.in-Ok.read.rest.now c.in-Ok-after_item.found.1.now
+      (item_as (named_list (inside c.args.used)) (named_line (inside c.args.used)) c.args.depth c.args.tokens.now c.items.list.items c.items.height c.items.rest.now _ c.in-Ok.read.height _ c.in-Ok.read.rest.now (c.items.invariant.led some) c.items.invariant.low c.in-Ok.ensures.exact (omega (arith, c.max-height.ensures)))
       c.in_ok-list.ensures (c.within.ensures.0 c.in-Ok-after_item.ensures.within)
-      (again_by kind.CloseParen c.in-Ok.read.2.now c.in-Ok-after_item.found.0 c.in-Ok-after_item.found.1.now c.in-None.is c.in-Ok-after_item.ensures.again);
+      (again_by kind.CloseParen c.in-Ok.read.rest.now c.in-Ok-after_item.found.0 c.in-Ok-after_item.found.1.now c.in-None.is c.in-Ok-after_item.ensures.again);
   short = let read = c.in-Ok.ensures.shorter in let more = c.in-Ok-after_item.ensures.shorter in let before = c.items.invariant.short in omega (arith, read, more, before);
   low = c.within.ensures.0 c.in-Ok-after_item.ensures.within;
 }
@@ -1075,8 +1075,8 @@ params::named_list-items-preserved t c = record {
 pub params::named_list-returns-in-Err-after_item-clause-exact : goal.params::named_list-returns-in-Err-after_item-clause-exact
 params::named_list-returns-in-Err-after_item-clause-exact t c = λ some.
     because (named_line (inside c.args.used)) nothing_continues c.args.depth c.args.tokens.now c.in-Err-after_item.error c.discard_params-in-Err-after_item.result c.discard_params-in-Err-after_item.ensures
-    (list_stuck (named_list (inside c.args.used)) (named_line (inside c.args.used)) c.args.depth c.args.tokens.now c.items.list.items _ c.max-height.result c.in-Ok.read.2.now c.in-Err-after_item.error _
-    (item_as (named_list (inside c.args.used)) (named_line (inside c.args.used)) c.args.depth c.args.tokens.now c.items.list.items c.items.height c.items.rest.now _ c.in-Ok.read.1 _ c.in-Ok.read.2.now (c.items.invariant.led some) c.items.invariant.low c.in-Ok.ensures.exact (omega (arith, c.max-height.ensures)))
+    (list_stuck (named_list (inside c.args.used)) (named_line (inside c.args.used)) c.args.depth c.args.tokens.now c.items.list.items _ c.max-height.result c.in-Ok.read.rest.now c.in-Err-after_item.error _
+    (item_as (named_list (inside c.args.used)) (named_line (inside c.args.used)) c.args.depth c.args.tokens.now c.items.list.items c.items.height c.items.rest.now _ c.in-Ok.read.height _ c.in-Ok.read.rest.now (c.items.invariant.led some) c.items.invariant.low c.in-Ok.ensures.exact (omega (arith, c.max-height.ensures)))
     c.in-Err-after_item.ensures.refused (λ over. over_by _ _ _ c.within.ensures.1 over))
 
 pub params::bare_list-returns-in-Some-clause-exact : goal.params::bare_list-returns-in-Some-clause-exact
@@ -1096,18 +1096,18 @@ params::bare_list-returns-in-Err-clause-exact t c =
 
 pub params::bare_list-returns-in-Some-end-clause-exact : goal.params::bare_list-returns-in-Some-end-clause-exact
 params::bare_list-returns-in-Some-end-clause-exact t c =
-    list_answer (bare_list (inside c.args.used)) (bare_line (inside c.args.used)) c.args.depth c.args.tokens.now c.items.list.items _ c.in-Ok.read.0 _ c.in-Ok.read.2.now c.in-Some-end.close c.in-Ok-after_item.found.1.now
-    (item_as (bare_list (inside c.args.used)) (bare_line (inside c.args.used)) c.args.depth c.args.tokens.now c.items.list.items c.items.height c.items.rest.now _ c.in-Ok.read.1 _ c.in-Ok.read.2.now c.items.invariant.led c.items.invariant.low c.in-Ok.ensures.exact (omega (arith, c.max-height.ensures)))
+    list_answer (bare_list (inside c.args.used)) (bare_line (inside c.args.used)) c.args.depth c.args.tokens.now c.items.list.items _ c.in-Ok.read.tree _ c.in-Ok.read.rest.now c.in-Some-end.close c.in-Ok-after_item.found.1.now
+    (item_as (bare_list (inside c.args.used)) (bare_line (inside c.args.used)) c.args.depth c.args.tokens.now c.items.list.items c.items.height c.items.rest.now _ c.in-Ok.read.height _ c.in-Ok.read.rest.now c.items.invariant.led c.items.invariant.low c.in-Ok.ensures.exact (omega (arith, c.max-height.ensures)))
     c.in_ok-list.ensures (c.within.ensures.0 c.in-Ok-after_item.ensures.within)
-    (ended_by kind.CloseParen c.in-Ok.read.2.now c.in-Ok-after_item.found.0 c.in-Some-end.close c.in-Ok-after_item.found.1.now c.in-Some-end.is c.in-Ok-after_item.ensures.ended)
+    (ended_by kind.CloseParen c.in-Ok.read.rest.now c.in-Ok-after_item.found.0 c.in-Some-end.close c.in-Ok-after_item.found.1.now c.in-Some-end.is c.in-Ok-after_item.ensures.ended)
 
 pub params::bare_list-items-preserved : goal.params::bare_list-items-preserved
 params::bare_list-items-preserved t c = record {
   led =
-      list_goes_on (bare_list (inside c.args.used)) (bare_line (inside c.args.used)) c.args.depth c.args.tokens.now c.items.list.items _ c.in-Ok.read.0 _ c.in-Ok.read.2.now c.in-Ok-after_item.found.1.now
-      (item_as (bare_list (inside c.args.used)) (bare_line (inside c.args.used)) c.args.depth c.args.tokens.now c.items.list.items c.items.height c.items.rest.now _ c.in-Ok.read.1 _ c.in-Ok.read.2.now c.items.invariant.led c.items.invariant.low c.in-Ok.ensures.exact (omega (arith, c.max-height.ensures)))
+      list_goes_on (bare_list (inside c.args.used)) (bare_line (inside c.args.used)) c.args.depth c.args.tokens.now c.items.list.items _ c.in-Ok.read.tree _ c.in-Ok.read.rest.now c.in-Ok-after_item.found.1.now
+      (item_as (bare_list (inside c.args.used)) (bare_line (inside c.args.used)) c.args.depth c.args.tokens.now c.items.list.items c.items.height c.items.rest.now _ c.in-Ok.read.height _ c.in-Ok.read.rest.now c.items.invariant.led c.items.invariant.low c.in-Ok.ensures.exact (omega (arith, c.max-height.ensures)))
       c.in_ok-list.ensures (c.within.ensures.0 c.in-Ok-after_item.ensures.within)
-      (again_by kind.CloseParen c.in-Ok.read.2.now c.in-Ok-after_item.found.0 c.in-Ok-after_item.found.1.now c.in-None.is c.in-Ok-after_item.ensures.again);
+      (again_by kind.CloseParen c.in-Ok.read.rest.now c.in-Ok-after_item.found.0 c.in-Ok-after_item.found.1.now c.in-None.is c.in-Ok-after_item.ensures.again);
   short = let read = c.in-Ok.ensures.shorter in let more = c.in-Ok-after_item.ensures.shorter in let before = c.items.invariant.short in omega (arith, read, more, before);
   low = c.within.ensures.0 c.in-Ok-after_item.ensures.within;
 }
@@ -1115,13 +1115,13 @@ params::bare_list-items-preserved t c = record {
 pub params::bare_list-returns-in-Err-after_item-clause-exact : goal.params::bare_list-returns-in-Err-after_item-clause-exact
 params::bare_list-returns-in-Err-after_item-clause-exact t c =
     because (bare_line (inside c.args.used)) nothing_continues c.args.depth c.args.tokens.now c.in-Err-after_item.error c.discard_params-in-Err-after_item.result c.discard_params-in-Err-after_item.ensures
-    (list_stuck (bare_list (inside c.args.used)) (bare_line (inside c.args.used)) c.args.depth c.args.tokens.now c.items.list.items _ c.max-height.result c.in-Ok.read.2.now c.in-Err-after_item.error _
-    (item_as (bare_list (inside c.args.used)) (bare_line (inside c.args.used)) c.args.depth c.args.tokens.now c.items.list.items c.items.height c.items.rest.now _ c.in-Ok.read.1 _ c.in-Ok.read.2.now c.items.invariant.led c.items.invariant.low c.in-Ok.ensures.exact (omega (arith, c.max-height.ensures)))
+    (list_stuck (bare_list (inside c.args.used)) (bare_line (inside c.args.used)) c.args.depth c.args.tokens.now c.items.list.items _ c.max-height.result c.in-Ok.read.rest.now c.in-Err-after_item.error _
+    (item_as (bare_list (inside c.args.used)) (bare_line (inside c.args.used)) c.args.depth c.args.tokens.now c.items.list.items c.items.height c.items.rest.now _ c.in-Ok.read.height _ c.in-Ok.read.rest.now c.items.invariant.led c.items.invariant.low c.in-Ok.ensures.exact (omega (arith, c.max-height.ensures)))
     c.in-Err-after_item.ensures.refused (λ over. over_by _ _ _ c.within.ensures.1 over))
 
 pub params::bare-returns-in-Ok-clause-exact : goal.params::bare-returns-in-Ok-clause-exact
 params::bare-returns-in-Ok-clause-exact t c =
-    of_params.bare_answer (inside c.args.used) c.args.depth c.args.tokens.now (type c.in-Ok.t) c.in-Ok.height c.in-Ok.rest.now _ c.in-Ok.ensures.exact c.bare_param.ensures
+    of_params.bare_answer (inside c.args.used) c.args.depth c.args.tokens.now (type c.in-Ok.field-0.tree) c.in-Ok.field-0.height c.in-Ok.field-0.rest.now _ c.in-Ok.ensures.exact c.bare_param.ensures
 
 pub params::bare-returns-in-Err-clause-exact : goal.params::bare-returns-in-Err-clause-exact
 params::bare-returns-in-Err-clause-exact t c = of_params.bare_refused (inside c.args.used) c.args.depth c.args.tokens.now c.in-Err.error c.in-Err.ensures.exact
@@ -1138,7 +1138,7 @@ params::plain-returns-in-Err-clause-exact t c = λ none. of_params.param_unnamed
 
 pub params::plain-returns-in-Ok-given-clause-exact : goal.params::plain-returns-in-Ok-given-clause-exact
 params::plain-returns-in-Ok-given-clause-exact t c = λ none.
-    of_params.typeid_answer (inside c.args.used) c.args.depth c.args.tokens.now c.in-Ok.read.0.items c.in-Ok.read.2.now c.in-Some._typeid c.in-Some.behind.now (maybe_expr c.in-Ok-given.default) c.in-Ok-given.height c.in-Ok-given.rest.now _
+    of_params.typeid_answer (inside c.args.used) c.args.depth c.args.tokens.now c.in-Ok.read.0.items c.in-Ok.read.2.now c.in-Some._typeid c.in-Some.behind.now (maybe_expr c.in-Ok-given.field-0.tree) c.in-Ok-given.field-0.height c.in-Ok-given.field-0.rest.now _
     (of_params.param_named (inside c.args.used) c.args.depth c.args.tokens.now c.in-Ok.read.0.items c.in-Ok.read.1 c.in-Ok.read.2.now none (c.in-Ok.ensures.exact c.args.depth)) c.in-Some.ensures.is c.in-Some.ensures.kind c.in-Ok-given.ensures.exact c.typeid_param.ensures
 
 pub params::plain-returns-in-Err-given-clause-exact : goal.params::plain-returns-in-Err-given-clause-exact
@@ -1148,7 +1148,7 @@ params::plain-returns-in-Err-given-clause-exact t c = λ none.
 
 pub params::plain-returns-in-Ok-level-clause-exact : goal.params::plain-returns-in-Ok-level-clause-exact
 params::plain-returns-in-Ok-level-clause-exact t c = λ none.
-    of_params.inferred_answer (inside c.args.used) c.args.depth c.args.tokens.now c.in-Ok.read.0.items c.in-Ok.read.2.now c.in-Some-strip._assign c.in-Some-strip.behind.now (expr c.in-Ok-level.e) c.in-Ok-level.height c.in-Ok-level.rest.now _
+    of_params.inferred_answer (inside c.args.used) c.args.depth c.args.tokens.now c.in-Ok.read.0.items c.in-Ok.read.2.now c.in-Some-strip._assign c.in-Some-strip.behind.now (expr c.in-Ok-level.field-0.tree) c.in-Ok-level.field-0.height c.in-Ok-level.field-0.rest.now _
     (of_params.param_named (inside c.args.used) c.args.depth c.args.tokens.now c.in-Ok.read.0.items c.in-Ok.read.1 c.in-Ok.read.2.now none (c.in-Ok.ensures.exact c.args.depth)) c.in-Some-strip.ensures.is c.in-Some-strip.ensures.kind c.in-Ok-level.ensures.exact c.inferred_param.ensures
 
 pub params::plain-returns-in-Err-level-clause-exact : goal.params::plain-returns-in-Err-level-clause-exact
@@ -1158,7 +1158,7 @@ params::plain-returns-in-Err-level-clause-exact t c = λ none.
 
 pub params::plain-returns-in-Ok-typed-clause-exact : goal.params::plain-returns-in-Ok-typed-clause-exact
 params::plain-returns-in-Ok-typed-clause-exact t c = λ none.
-    of_params.typed_answer (inside c.args.used) c.args.depth c.args.tokens.now c.in-Ok.read.0.items c.in-Ok.read.2.now (type c.in-Ok-typed.t, maybe_expr c.in-Ok-typed.default) c.in-Ok-typed.height c.in-Ok-typed.rest.now _
+    of_params.typed_answer (inside c.args.used) c.args.depth c.args.tokens.now c.in-Ok.read.0.items c.in-Ok.read.2.now (type c.in-Ok-typed.read.tree.ty, maybe_expr c.in-Ok-typed.read.tree.default) c.in-Ok-typed.read.height c.in-Ok-typed.read.rest.now _
     (of_params.param_named (inside c.args.used) c.args.depth c.args.tokens.now c.in-Ok.read.0.items c.in-Ok.read.1 c.in-Ok.read.2.now none (c.in-Ok.ensures.exact c.args.depth)) c.in-None.ensures.none c.in-None-strip.ensures.none c.in-Ok-typed.ensures.exact c.typed_param.ensures
 
 pub params::plain-returns-in-Err-typed-clause-exact : goal.params::plain-returns-in-Err-typed-clause-exact
@@ -1171,19 +1171,19 @@ params::typed-returns-in-Err-clause-exact t c = of_params.type_refused (inside c
 
 pub params::typed-returns-in-Ok-given-clause-exact : goal.params::typed-returns-in-Ok-given-clause-exact
 params::typed-returns-in-Ok-given-clause-exact t c =
-    of_params.default_answer (inside c.args.used) c.args.depth c.args.tokens.now (type c.in-Ok.read.0) c.in-Ok.read.1 c.in-Ok.read.2.now (maybe_expr c.in-Ok-given.default) c.in-Ok-given.m c.in-Ok-given.rest.now _ c.in-Ok.ensures.exact c.in-Ok.ensures.low c.in-Ok-given.ensures.exact c.max.ensures
+    of_params.default_answer (inside c.args.used) c.args.depth c.args.tokens.now (type c.in-Ok.read.tree) c.in-Ok.read.height c.in-Ok.read.rest.now (maybe_expr c.in-Ok-given.field-0.tree) c.in-Ok-given.field-0.height c.in-Ok-given.field-0.rest.now _ c.in-Ok.ensures.exact c.in-Ok.ensures.low c.in-Ok-given.ensures.exact c.max.ensures
 
 pub params::typed-returns-in-Err-given-clause-exact : goal.params::typed-returns-in-Err-given-clause-exact
 params::typed-returns-in-Err-given-clause-exact t c =
     because (typed_line (inside c.args.used)) continues_argument c.args.depth c.args.tokens.now c.in-Err-given.error c.discard_type.result c.discard_type.ensures
-    (of_params.default_refused (inside c.args.used) c.args.depth c.args.tokens.now (type c.in-Ok.read.0) c.in-Ok.read.1 c.in-Ok.read.2.now c.in-Err-given.error c.in-Ok.ensures.exact c.in-Ok.ensures.low c.in-Err-given.ensures.exact)
+    (of_params.default_refused (inside c.args.used) c.args.depth c.args.tokens.now (type c.in-Ok.read.tree) c.in-Ok.read.height c.in-Ok.read.rest.now c.in-Err-given.error c.in-Ok.ensures.exact c.in-Ok.ensures.low c.in-Err-given.ensures.exact)
 
 pub params::parametric-returns-in-Err-clause-exact : goal.params::parametric-returns-in-Err-clause-exact
 params::parametric-returns-in-Err-clause-exact t c = λ e. dollar_unnamed c.args.depth c.args.dollar c.args.behind.now c.in-Err.error e (c.in-Err.ensures.exact c.args.depth)
 
 pub params::parametric-returns-in-Ok-given-clause-exact : goal.params::parametric-returns-in-Ok-given-clause-exact
 params::parametric-returns-in-Ok-given-clause-exact t c = λ e.
-    dollar_typeid_answer c.args.depth c.args.dollar c.in-Some._typeid c.args.behind.now c.in-Ok.read.0.items c.in-Ok.read.1 c.in-Ok.read.2.now c.in-Some.rest.now (maybe_expr c.in-Ok-given.default) c.in-Ok-given.height c.in-Ok-given.last.now _
+    dollar_typeid_answer c.args.depth c.args.dollar c.in-Some._typeid c.args.behind.now c.in-Ok.read.0.items c.in-Ok.read.1 c.in-Ok.read.2.now c.in-Some.rest.now (maybe_expr c.in-Ok-given.field-0.tree) c.in-Ok-given.field-0.height c.in-Ok-given.field-0.rest.now _
     e c.in-Ok.ensures.exact c.in-Some.ensures.is c.in-Some.ensures.kind c.in-Ok-given.ensures.exact c.typeid_param.ensures
 
 pub params::parametric-returns-in-Err-given-clause-exact : goal.params::parametric-returns-in-Err-given-clause-exact
@@ -1198,7 +1198,7 @@ params::parametric-returns-then-depth-eq0-clause-exact t c = λ e.
 
 pub params::parametric-returns-in_ok-int_param-in-Ok-given-2-clause-exact : goal.params::parametric-returns-in_ok-int_param-in-Ok-given-2-clause-exact
 params::parametric-returns-in_ok-int_param-in-Ok-given-2-clause-exact t c = λ e.
-    dollar_int_answer c.args.depth c.args.dollar c.in-Some-strip_int.int c.args.behind.now c.in-Ok.read.0.items c.in-Ok.read.1 c.in-Ok.read.2.now c.in-Some-strip_int.rest.now (maybe_expr c.in-Ok-given-2.default) c.in-Ok-given-2.height c.in-Ok-given-2.last.now _ _
+    dollar_int_answer c.args.depth c.args.dollar c.in-Some-strip_int.int c.args.behind.now c.in-Ok.read.0.items c.in-Ok.read.1 c.in-Ok.read.2.now c.in-Some-strip_int.rest.now (maybe_expr c.in-Ok-given-2.field-0.tree) c.in-Ok-given-2.field-0.height c.in-Ok-given-2.field-0.rest.now _ _
     e c.in-Ok.ensures.exact c.in-Some-strip_int.ensures.is c.in-Some-strip_int.ensures.kind c.in-Some-strip_int.ensures.word (omega arith) c.in-Ok-given-2.ensures.exact c.in_ok-int_param-in-Ok-given-2.ensures (omega (arith, c.max.ensures))
 
 pub params::parametric-returns-in-Err-given-2-clause-exact : goal.params::parametric-returns-in-Err-given-2-clause-exact
@@ -1226,22 +1226,22 @@ procedure::lambda-returns-in-Err-clause-exact t c = λ e.
 pub procedure::lambda-returns-then-takes_braces-clause-exact : goal.procedure::lambda-returns-then-takes_braces-clause-exact
 procedure::lambda-returns-then-takes_braces-clause-exact t c = λ e.
     c.with_body.ensures.exact c.in-Ok.ensures.low c.args.mode (c.args.proc ∷ c.args.behind.now) (of_procedures.takes_body c.args.mode (sym c.takes_braces.ensures ∙ c.if-takes_braces.true)) e
-    (to_found c.in-Ok.read.3 (c.in-Ok.ensures.exact e) (brace_no_dot c.in-Some._open c.in-Ok.read.2.now c.in-Some._inner.now c.in-Some.ensures.is c.in-Some.ensures.kind))
-    (stands_at kind.OpenBrace c.in-Some._open c.in-Ok.read.2.now c.in-Some._inner.now c.in-Some.ensures.is c.in-Some.ensures.kind)
+    (to_found c.in-Ok.read.end (c.in-Ok.ensures.exact e) (brace_no_dot c.in-Some._open c.in-Ok.read.rest.now c.in-Some._inner.now c.in-Some.ensures.is c.in-Some.ensures.kind))
+    (stands_at kind.OpenBrace c.in-Some._open c.in-Ok.read.rest.now c.in-Some._inner.now c.in-Some.ensures.is c.in-Some.ensures.kind)
 
 pub procedure::lambda-returns-else-takes_braces-clause-exact : goal.procedure::lambda-returns-else-takes_braces-clause-exact
 procedure::lambda-returns-else-takes_braces-clause-exact t c = λ e.
-    because_to (one (g.operand c.args.mode)) nothing_continues (suc c.args.depth) (c.args.proc ∷ c.args.behind.now) (stop.Syntax (length c.in-Ok.read.2.now)) c.discard_signature.result c.discard_signature.ensures
-    (of_procedures.body_nowhere c.args.mode (of_procedures.takes_none c.args.mode (sym c.takes_braces.ensures ∙ c.if-takes_braces.false)) c.args.depth c.args.proc c.args.behind.now (signature c.in-Ok.read.0) c.in-Ok.read.1 c.in-Some._open c.in-Some._inner.now c.in-Ok.read.2.now e
-    (to_found c.in-Ok.read.3 (c.in-Ok.ensures.exact e) (brace_no_dot c.in-Some._open c.in-Ok.read.2.now c.in-Some._inner.now c.in-Some.ensures.is c.in-Some.ensures.kind)) c.in-Some.ensures.is c.in-Some.ensures.kind)
+    because_to (one (g.operand c.args.mode)) nothing_continues (suc c.args.depth) (c.args.proc ∷ c.args.behind.now) (stop.Syntax (length c.in-Ok.read.rest.now)) c.discard_signature.result c.discard_signature.ensures
+    (of_procedures.body_nowhere c.args.mode (of_procedures.takes_none c.args.mode (sym c.takes_braces.ensures ∙ c.if-takes_braces.false)) c.args.depth c.args.proc c.args.behind.now (signature c.in-Ok.read.tree) c.in-Ok.read.height c.in-Some._open c.in-Some._inner.now c.in-Ok.read.rest.now e
+    (to_found c.in-Ok.read.end (c.in-Ok.ensures.exact e) (brace_no_dot c.in-Some._open c.in-Ok.read.rest.now c.in-Some._inner.now c.in-Some.ensures.is c.in-Some.ensures.kind)) c.in-Some.ensures.is c.in-Some.ensures.kind)
 
 pub procedure::lambda-returns-in_ok-proc_type-in-None-clause-exact : goal.procedure::lambda-returns-in_ok-proc_type-in-None-clause-exact
 procedure::lambda-returns-in_ok-proc_type-in-None-clause-exact t c = λ e.
-    of_procedures.type_answer c.args.mode c.args.depth c.args.proc c.args.behind.now (signature c.in-Ok.read.0) c.in-Ok.read.1 c.in-Ok.read.2.now c.in-Ok.read.3 _ _ e (c.in-Ok.ensures.exact e) c.in-None.ensures.none c.in_ok-proc_type-in-None.ensures (omega arith)
+    of_procedures.type_answer c.args.mode c.args.depth c.args.proc c.args.behind.now (signature c.in-Ok.read.tree) c.in-Ok.read.height c.in-Ok.read.rest.now c.in-Ok.read.end _ _ e (c.in-Ok.ensures.exact e) c.in-None.ensures.none c.in_ok-proc_type-in-None.ensures (omega arith)
 
 pub procedure::with_body-returns-in_ok-proc_literal-in-Ok-clause-exact : goal.procedure::with_body-returns-in_ok-proc_literal-in-Ok-clause-exact
 procedure::with_body-returns-in_ok-proc_literal-in-Ok-clause-exact t c = λ low mode ts free proc found brace.
-    found_to (bodied mode free c.args.depth ts (signature c.args.s) c.args.height c.args.tokens.now (view.stmts c.in-Ok.body.items) c.in-Ok.n c.in-Ok.rest.now _ _ proc found low brace c.in-Ok.ensures.exact c.in_ok-proc_literal-in-Ok.ensures
+    found_to (bodied mode free c.args.depth ts (signature c.args.s) c.args.height c.args.tokens.now (view.stmts c.in-Ok.field-0.tree.items) c.in-Ok.field-0.height c.in-Ok.field-0.rest.now _ _ proc found low brace c.in-Ok.ensures.exact c.in_ok-proc_literal-in-Ok.ensures
     (let n = c.in-Ok.ensures.low in omega (arith, c.max.ensures, c.saturating_add.ensures, low, n)))
 
 pub procedure::with_body-returns-in-Err-clause-exact : goal.procedure::with_body-returns-in-Err-clause-exact
@@ -1278,7 +1278,7 @@ exprs::exprs_from-returns-in-Err-clause-exact t c = λ ts found.
 pub exprs::exprs_from-items-preserved : goal.exprs::exprs_from-items-preserved
 exprs::exprs_from-items-preserved t c = record {
   led = λ ts found.
-      exprs_more_read c.args.mode c.later.result c.args.depth ts c.items.list.items _ c.items.top c.items.rest.now c.in-Some._comma c.in-Some.behind.now _ c.in-Ok.read.1 _ c.in-Ok.read.2.now c.later.ensures (c.items.invariant.led ts found) (omega arith)
+      exprs_more_read c.args.mode c.later.result c.args.depth ts c.items.list.items _ c.items.top c.items.rest.now c.in-Some._comma c.in-Some.behind.now _ c.in-Ok.read.height _ c.in-Ok.read.rest.now c.later.ensures (c.items.invariant.led ts found) (omega arith)
       c.in-Some.ensures.is c.in-Some.ensures.kind c.in-Ok.ensures.exact c.in_ok-list.ensures c.max-top.ensures;
   begins = begins_more (expr c.args.first) c.items.list.items _ _ c.items.invariant.begins c.in_ok-list.ensures;
   short = let longer = ap length c.in-Some.ensures.is in let read = c.in-Ok.ensures.shorter in let before = c.items.invariant.short in omega (arith, longer, read, before);
@@ -1306,32 +1306,29 @@ declaration::declaration-returns-in-None-clause-exact t c = no_declaration c.arg
 pub declaration::declaration-returns-then-depth-eq0-clause-exact : goal.declaration::declaration-returns-then-depth-eq0-clause-exact
 declaration::declaration-returns-then-depth-eq0-clause-exact t c = declaration_deep c.args.mode c.args.depth c.args.tokens.now c.in-Some.found.0 c.in-Some.found.1.now c.if-depth-eq0.true c.in-Some.ensures.is c.in-Some.ensures.kind
 
-pub simple::simple_from-returns-then-height-most-clause-exact : goal.simple::simple_from-returns-then-height-most-clause-exact
-simple::simple_from-returns-then-height-most-clause-exact t c = λ ts read. because (one (g.simple c.args.mode)) (continues_simple c.args.mode) (suc c.args.depth) ts stop.Memory _ c.discard_expr.ensures tt
-
 pub simple::simple_from-returns-in-Err-clause-exact : goal.simple::simple_from-returns-in-Err-clause-exact
 simple::simple_from-returns-in-Err-clause-exact t c = λ ts found. simple_refused c.args.mode c.args.depth ts c.in-Err.error (c.in-Err.ensures.exact ts found)
 
 pub simple::simple_from-returns-in-None-clause-exact : goal.simple::simple_from-returns-in-None-clause-exact
 simple::simple_from-returns-in-None-clause-exact t c = λ ts found.
-    eval_answer c.args.mode c.args.depth ts c.args.first c.in-Ok.read.0.items c.in-Ok.read.1 c.in-Ok.read.2.now _ _ c.in-Ok.ensures.first (c.in-Ok.ensures.exact ts found) c.in-None.ensures.none
-    (c.in_ok-eval-in-None.ensures ∙ ap (λ (e : tree.Expr). tree.stmt (tree.first_of e) (tree.eval (exprs c.in-Ok.read.0.items))) c.first.view_is) refl
+    eval_answer c.args.mode c.args.depth ts c.args.first c.in-Ok.read.tree.items c.in-Ok.read.height c.in-Ok.read.rest.now _ _ c.in-Ok.ensures.first (c.in-Ok.ensures.exact ts found) c.in-None.ensures.none
+    (c.in_ok-eval-in-None.ensures ∙ ap (λ (e : tree.Expr). tree.stmt (tree.first_of e) (tree.eval (exprs c.in-Ok.read.tree.items))) c.first.view_is) refl
 
 pub simple::simple_from-returns-then-n-from-clause-exact : goal.simple::simple_from-returns-then-n-from-clause-exact
 simple::simple_from-returns-then-n-from-clause-exact t c = λ ts found.
     because (one (g.simple c.args.mode)) (continues_simple c.args.mode) (suc c.args.depth) ts _ c.discard_exprs.result c.discard_exprs.ensures
-    (assign_over c.args.mode c.args.depth ts c.args.first c.in-Ok.read.0.items c.in-Ok.read.1 c.in-Ok.read.2.now c.in-Some.found.1 c.in-Some.found.0 c.in-Some.found.2.now c.in-Ok.ensures.first (c.in-Ok.ensures.exact ts found)
+    (assign_over c.args.mode c.args.depth ts c.args.first c.in-Ok.read.tree.items c.in-Ok.read.height c.in-Ok.read.rest.now c.in-Some.found.1 c.in-Some.found.0 c.in-Some.found.2.now c.in-Ok.ensures.first (c.in-Ok.ensures.exact ts found)
     (record { is = c.in-Some.ensures.is; op_is = c.in-Some.ensures.op }) (omega arith))
 
 pub simple::simple_from-returns-in_ok-assign-in-Ok-exprs-clause-exact : goal.simple::simple_from-returns-in_ok-assign-in-Ok-exprs-clause-exact
 simple::simple_from-returns-in_ok-assign-in-Ok-exprs-clause-exact t c = λ ts found.
-    assign_answer c.args.mode c.later.result c.args.depth ts c.args.first c.in-Ok.read.0.items c.in-Ok.read.1 c.in-Ok.read.2.now c.in-Some.found.1 c.in-Some.found.0 c.in-Some.found.2.now c.in-Ok-exprs.values.items c.in-Ok-exprs.m c.in-Ok-exprs.after.now _ _
+    assign_answer c.args.mode c.later.result c.args.depth ts c.args.first c.in-Ok.read.tree.items c.in-Ok.read.height c.in-Ok.read.rest.now c.in-Some.found.1 c.in-Some.found.0 c.in-Some.found.2.now c.in-Ok-exprs.field-0.tree.items c.in-Ok-exprs.field-0.height c.in-Ok-exprs.field-0.rest.now _ _
     c.later.ensures c.in-Ok.ensures.first (c.in-Ok.ensures.exact ts found) (record { is = c.in-Some.ensures.is; op_is = c.in-Some.ensures.op }) (omega arith) c.in-Ok-exprs.ensures.exact c.in_ok-assign-in-Ok-exprs.ensures (omega (arith, c.max.ensures))
 
 pub simple::simple_from-returns-in-Err-exprs-clause-exact : goal.simple::simple_from-returns-in-Err-exprs-clause-exact
 simple::simple_from-returns-in-Err-exprs-clause-exact t c = λ ts found.
     because (one (g.simple c.args.mode)) (continues_simple c.args.mode) (suc c.args.depth) ts c.in-Err-exprs.error c.discard_exprs-in-Err-exprs.result c.discard_exprs-in-Err-exprs.ensures
-    (values_refused c.args.mode c.later.result c.args.depth ts c.args.first c.in-Ok.read.0.items c.in-Ok.read.1 c.in-Ok.read.2.now c.in-Some.found.1 c.in-Some.found.0 c.in-Some.found.2.now c.in-Err-exprs.error
+    (values_refused c.args.mode c.later.result c.args.depth ts c.args.first c.in-Ok.read.tree.items c.in-Ok.read.height c.in-Ok.read.rest.now c.in-Some.found.1 c.in-Some.found.0 c.in-Some.found.2.now c.in-Err-exprs.error
     c.later.ensures c.in-Ok.ensures.first (c.in-Ok.ensures.exact ts found) (record { is = c.in-Some.ensures.is; op_is = c.in-Some.ensures.op }) (omega arith) c.in-Err-exprs.ensures.exact)
 
 pub declaration::declaration-returns-in-Err-clause-exact : goal.declaration::declaration-returns-in-Err-clause-exact
@@ -1362,7 +1359,7 @@ declaration::declaration-returns-in-Err-expect-clause-exact t c =
 pub declaration::behind_colon-returns-in_ok-inferred-in-Ok-clause-exact : goal.declaration::behind_colon-returns-in_ok-inferred-in-Ok-clause-exact
 declaration::behind_colon-returns-in_ok-inferred-in-Ok-clause-exact t c = λ ts read.
     answer_is (sym c.in_ok-inferred-in-Ok.ensures) refl
-    (inferred_answer c.args.mode c.args.depth ts c.args.at c.args.names.items c.args.tokens.now c.in-Some._assign c.in-Some.rest.now (exprs c.in-Ok.values.items) c.in-Ok.height _ c.in-Ok.after.now (headed_at c.args.mode c.args.depth ts c.args.at c.args.names.items c.args.tokens.now read)
+    (inferred_answer c.args.mode c.args.depth ts c.args.at c.args.names.items c.args.tokens.now c.in-Some._assign c.in-Some.rest.now (exprs c.in-Ok.field-0.tree.items) c.in-Ok.field-0.height _ c.in-Ok.field-0.rest.now (headed_at c.args.mode c.args.depth ts c.args.at c.args.names.items c.args.tokens.now read)
     c.in-Some.ensures.is c.in-Some.ensures.kind c.in-Ok.ensures.exact (omega arith))
 
 pub declaration::behind_colon-returns-in-Err-clause-exact : goal.declaration::behind_colon-returns-in-Err-clause-exact
@@ -1373,7 +1370,7 @@ declaration::behind_colon-returns-in-Err-clause-exact t c = λ ts read.
 pub declaration::behind_colon-returns-in_ok-constant-in-Ok-exprs-clause-exact : goal.declaration::behind_colon-returns-in_ok-constant-in-Ok-exprs-clause-exact
 declaration::behind_colon-returns-in_ok-constant-in-Ok-exprs-clause-exact t c = λ ts read.
     answer_is (sym c.in_ok-constant-in-Ok-exprs.ensures) refl
-    (constant_answer c.args.mode c.args.depth ts c.args.at c.args.names.items c.args.tokens.now c.in-Some-strip._colon c.in-Some-strip.rest.now (exprs c.in-Ok-exprs.values.items) c.in-Ok-exprs.height _ c.in-Ok-exprs.after.now
+    (constant_answer c.args.mode c.args.depth ts c.args.at c.args.names.items c.args.tokens.now c.in-Some-strip._colon c.in-Some-strip.rest.now (exprs c.in-Ok-exprs.field-0.tree.items) c.in-Ok-exprs.field-0.height _ c.in-Ok-exprs.field-0.rest.now
     (headed_at c.args.mode c.args.depth ts c.args.at c.args.names.items c.args.tokens.now read) c.in-Some-strip.ensures.is c.in-Some-strip.ensures.kind c.in-Ok-exprs.ensures.exact (omega arith))
 
 pub declaration::behind_colon-returns-in-Err-exprs-clause-exact : goal.declaration::behind_colon-returns-in-Err-exprs-clause-exact
@@ -1389,18 +1386,15 @@ pub declaration::behind_colon-returns-in-Err-ty-clause-exact : goal.declaration:
 declaration::behind_colon-returns-in-Err-ty-clause-exact t c = λ ts read.
     declaring.type_refused c.args.mode c.args.depth ts c.args.at c.args.names.items c.args.tokens.now c.in-Err-ty.error (headed_at c.args.mode c.args.depth ts c.args.at c.args.names.items c.args.tokens.now read) c.in_default.ensures.none c.in_default-strip.ensures.none c.in-Err-ty.ensures.exact
 
-pub declaration::behind_type-returns-then-height-most-clause-exact : goal.declaration::behind_type-returns-then-height-most-clause-exact
-declaration::behind_type-returns-then-height-most-clause-exact t c = λ ts read. because (one (g.declaration c.args.mode)) (continues_declaration c.args.mode) (suc c.args.depth) ts stop.Memory _ c.discard_type.ensures tt
-
 pub declaration::behind_type-returns-then-height-from-clause-exact : goal.declaration::behind_type-returns-then-height-from-clause-exact
 declaration::behind_type-returns-then-height-from-clause-exact t c = λ ts read.
-    because (one (g.declaration c.args.mode)) (continues_declaration c.args.mode) (suc c.args.depth) ts _ _ c.discard_type-then-height-from.ensures
+    because (one (g.declaration c.args.mode)) (continues_declaration c.args.mode) (suc c.args.depth) ts _ _ c.discard_type.ensures
     (valued_deep c.args.mode c.args.depth ts c.args.at c.args.names.items (type c.args.t) c.args.height c.args.tokens.now c.in-Some._colon c.in-Some.rest.now (typed_behind c.args.mode c.args.depth ts c.args.at c.args.names.items (type c.args.t) c.args.height c.args.tokens.now read) (omega arith) c.in-Some.ensures.is c.in-Some.ensures.kind)
 
 pub declaration::behind_type-returns-in_ok-typed_constant-in-Ok-clause-exact : goal.declaration::behind_type-returns-in_ok-typed_constant-in-Ok-clause-exact
 declaration::behind_type-returns-in_ok-typed_constant-in-Ok-clause-exact t c = λ ts read.
     answer_is (sym c.in_ok-typed_constant-in-Ok.ensures) refl
-    (valued_answer c.args.mode c.args.depth ts c.args.at c.args.names.items (type c.args.t) c.args.height c.args.tokens.now c.in-Some._colon c.in-Some.rest.now (exprs c.in-Ok.values.items) c.in-Ok.n _ c.in-Ok.after.now (typed_behind c.args.mode c.args.depth ts c.args.at c.args.names.items (type c.args.t) c.args.height c.args.tokens.now read) (omega arith) c.in-Some.ensures.is c.in-Some.ensures.kind c.in-Ok.ensures.exact (omega (arith, c.max.ensures)))
+    (valued_answer c.args.mode c.args.depth ts c.args.at c.args.names.items (type c.args.t) c.args.height c.args.tokens.now c.in-Some._colon c.in-Some.rest.now (exprs c.in-Ok.field-0.tree.items) c.in-Ok.field-0.height _ c.in-Ok.field-0.rest.now (typed_behind c.args.mode c.args.depth ts c.args.at c.args.names.items (type c.args.t) c.args.height c.args.tokens.now read) (omega arith) c.in-Some.ensures.is c.in-Some.ensures.kind c.in-Ok.ensures.exact (omega (arith, c.max.ensures)))
 
 pub declaration::behind_type-returns-in-Err-clause-exact : goal.declaration::behind_type-returns-in-Err-clause-exact
 declaration::behind_type-returns-in-Err-clause-exact t c = λ ts read.
@@ -1424,7 +1418,7 @@ declaration::behind_type-returns-in-Some-strip-2-clause-exact t c = λ ts read.
 pub declaration::behind_type-returns-in_ok-typed-in-Ok-exprs-clause-exact : goal.declaration::behind_type-returns-in_ok-typed-in-Ok-exprs-clause-exact
 declaration::behind_type-returns-in_ok-typed-in-Ok-exprs-clause-exact t c = λ ts read.
     answer_is (sym c.in_ok-typed-in-Ok-exprs.ensures) refl
-    (begun_answer c.args.mode c.args.depth ts c.args.at c.args.names.items (type c.args.t) c.args.height c.args.tokens.now c.in-Some-strip._assign c.in-Some-strip.rest.now (exprs c.in-Ok-exprs.values.items) c.in-Ok-exprs.n _ c.in-Ok-exprs.after.now (typed_behind c.args.mode c.args.depth ts c.args.at c.args.names.items (type c.args.t) c.args.height c.args.tokens.now read) (omega arith) c.in-Some-strip.ensures.is c.in-Some-strip.ensures.kind c.in_default-strip.ensures.none
+    (begun_answer c.args.mode c.args.depth ts c.args.at c.args.names.items (type c.args.t) c.args.height c.args.tokens.now c.in-Some-strip._assign c.in-Some-strip.rest.now (exprs c.in-Ok-exprs.field-0.tree.items) c.in-Ok-exprs.field-0.height _ c.in-Ok-exprs.field-0.rest.now (typed_behind c.args.mode c.args.depth ts c.args.at c.args.names.items (type c.args.t) c.args.height c.args.tokens.now read) (omega arith) c.in-Some-strip.ensures.is c.in-Some-strip.ensures.kind c.in_default-strip.ensures.none
     c.in-Ok-exprs.ensures.exact (omega (arith, c.max-in-Ok-exprs.ensures)))
 
 pub declaration::behind_type-returns-in-Err-exprs-clause-exact : goal.declaration::behind_type-returns-in-Err-exprs-clause-exact
@@ -1479,7 +1473,7 @@ pub statement::named-returns-in-Ok-clause-exact : goal.statement::named-returns-
 statement::named-returns-in-Ok-clause-exact t c = λ is k.
     found_depth (c.args.depth - 1) (omega arith)
     (answer_is (sym c.in-Ok.ensures.read.is) refl
-    (label_answer (c.args.depth - 1) c.args.tokens.now c.in-Some.mark c.in-Some.rest.now c.in-Ok.ensures.read.value c.in-Ok.height _ c.in-Ok.after.now c.in-Some.ensures.labels c.in-Ok.ensures.read.found (omega arith)))
+    (label_answer (c.args.depth - 1) c.args.tokens.now c.in-Some.mark c.in-Some.rest.now c.in-Ok.ensures.read.value c.in-Ok.field-0.height _ c.in-Ok.field-0.rest.now c.in-Some.ensures.labels c.in-Ok.ensures.read.found (omega arith)))
 
 pub statement::named-returns-in-Err-clause-exact : goal.statement::named-returns-in-Err-clause-exact
 statement::named-returns-in-Err-clause-exact t c = λ is k.
@@ -1497,7 +1491,7 @@ pub statement::named-returns-in_ok-declare-in-Ok-declaration-clause-exact : goal
 statement::named-returns-in_ok-declare-in-Ok-declaration-clause-exact t c = λ is k.
     found_depth (c.args.depth - 1) (omega arith)
     (answer_is (sym c.in_ok-declare-in-Ok-declaration.ensures) refl
-    (declare_answer (c.args.depth - 1) c.args.tokens.now c.in-Ok-names_end._rest.now c.args.name c.args.behind.now (decl c.in-Ok-declaration.d) c.in-Ok-declaration.height _ c.in-Ok-declaration.after.now (omega arith)
+    (declare_answer (c.args.depth - 1) c.args.tokens.now c.in-Ok-names_end._rest.now c.args.name c.args.behind.now (decl c.in-Ok-declaration.field-0.tree) c.in-Ok-declaration.field-0.height _ c.in-Ok-declaration.field-0.rest.now (omega arith)
     c.in-Ok-names_end.ensures.declares c.in_default.ensures.none is k c.in-Ok-declaration.ensures.exact (omega arith)))
 
 pub statement::named-returns-in-Err-declaration-clause-exact : goal.statement::named-returns-in-Err-declaration-clause-exact
@@ -1536,13 +1530,8 @@ statement::declared_too_deep-returns-in-Some-strip t c = record {
       colon_over c.args.name c.args.colon c.in-Some-strip._colon (c.args.name ∷ c.args.colon ∷ c.args.tokens.now) (c.args.colon ∷ c.args.tokens.now) c.args.tokens.now c.in-Some-strip.rest.now refl k refl f c.in-Some-strip.ensures.is (inr c.in-Some-strip.ensures.kind);
 }
 
-pub statement::declared_too_deep-returns-in-Ok : goal.statement::declared_too_deep-returns-in-Ok
-statement::declared_too_deep-returns-in-Ok t c = record {
-  exact = λ k f none. because (one g.statement) continues_statement 1 (c.args.name ∷ c.args.colon ∷ c.args.tokens.now) stop.Memory c.discard_type.result c.discard_type.ensures tt;
-}
-
-pub statement::declared_too_deep-returns-in-Err : goal.statement::declared_too_deep-returns-in-Err
-statement::declared_too_deep-returns-in-Err t c = record {
+pub statement::declared_too_deep-returns : goal.statement::declared_too_deep-returns
+statement::declared_too_deep-returns t c = record {
   exact = λ k f none.
       colon_type_refused c.args.name c.args.colon (c.args.name ∷ c.args.colon ∷ c.args.tokens.now) (c.args.colon ∷ c.args.tokens.now) c.args.tokens.now c.in-Err.error refl k refl f none c.in_default.ensures.none c.in_default-strip.ensures.none c.in-Err.ensures.exact;
 }
@@ -1555,8 +1544,8 @@ pub statement::bare-returns-in-Ok-clause-exact : goal.statement::bare-returns-in
 statement::bare-returns-in-Ok-clause-exact t c = λ is f.
     found_front (c.args.depth - 1) (omega arith) is
     (answer_is (sym c.in-Ok.ensures.read.is) refl
-    (bare_answer (c.args.depth - 1) c.args.token c.args.behind.now c.in-Ok.ensures.read.value c.in-Ok.height _ c.in-Ok.after.now f
-    (to_token (one labelled_part) continues_statement (c.args.depth - 1) c.args.tokens.now c.args.token c.args.behind.now (Yes c.in-Ok.ensures.read.value c.in-Ok.height c.in-Ok.after.now) is c.in-Ok.ensures.read.found) (omega arith)))
+    (bare_answer (c.args.depth - 1) c.args.token c.args.behind.now c.in-Ok.ensures.read.value c.in-Ok.field-0.height _ c.in-Ok.field-0.rest.now f
+    (to_token (one labelled_part) continues_statement (c.args.depth - 1) c.args.tokens.now c.args.token c.args.behind.now (Yes c.in-Ok.ensures.read.value c.in-Ok.field-0.height c.in-Ok.field-0.rest.now) is c.in-Ok.ensures.read.found) (omega arith)))
 
 pub statement::bare-returns-in-Err-clause-exact : goal.statement::bare-returns-in-Err-clause-exact
 statement::bare-returns-in-Err-clause-exact t c = λ is f.
@@ -1570,7 +1559,7 @@ statement::defer-returns-then-depth-eq0-clause-exact t c = λ f. statement_zero 
 pub statement::defer-returns-in_ok-defer-in-Ok-clause-exact : goal.statement::defer-returns-in_ok-defer-in-Ok-clause-exact
 statement::defer-returns-in_ok-defer-in-Ok-clause-exact t c = λ f.
     found_depth (c.args.depth - 1) (omega arith)
-    (answer_is (sym c.in_ok-defer-in-Ok.ensures) refl (defer_answer (c.args.depth - 1) c.args.token c.args.behind.now (stmt c.in-Ok.s) c.in-Ok.height _ c.in-Ok.after.now f c.in-Ok.ensures.exact (omega arith)))
+    (answer_is (sym c.in_ok-defer-in-Ok.ensures) refl (defer_answer (c.args.depth - 1) c.args.token c.args.behind.now (stmt c.in-Ok.field-0.tree) c.in-Ok.field-0.height _ c.in-Ok.field-0.rest.now f c.in-Ok.ensures.exact (omega arith)))
 
 pub statement::defer-returns-in-Err-clause-exact : goal.statement::defer-returns-in-Err-clause-exact
 statement::defer-returns-in-Err-clause-exact t c = λ f.
@@ -1582,7 +1571,7 @@ statement::returns-returns-then-depth-eq0-clause-exact t c = λ f. statement_zer
 pub statement::returns-returns-in_ok-returns-in-Ok-clause-exact : goal.statement::returns-returns-in_ok-returns-in-Ok-clause-exact
 statement::returns-returns-in_ok-returns-in-Ok-clause-exact t c = λ f.
     found_depth (c.args.depth - 1) (omega arith)
-    (answer_is (sym c.in_ok-returns-in-Ok.ensures) refl (return_answer (c.args.depth - 1) c.args.token c.args.behind.now (exprs c.in-Ok.values.items) c.in-Ok.height _ c.in-Ok.after.now f c.in-Ok.ensures.exact c.in-Ok.ensures.shorter (omega arith)))
+    (answer_is (sym c.in_ok-returns-in-Ok.ensures) refl (return_answer (c.args.depth - 1) c.args.token c.args.behind.now (exprs c.in-Ok.field-0.tree.items) c.in-Ok.field-0.height _ c.in-Ok.field-0.rest.now f c.in-Ok.ensures.exact c.in-Ok.ensures.shorter (omega arith)))
 
 pub statement::returns-returns-in_ok-returns-in-Err-clause-exact : goal.statement::returns-returns-in_ok-returns-in-Err-clause-exact
 statement::returns-returns-in_ok-returns-in-Err-clause-exact t c = λ f.
@@ -1599,10 +1588,10 @@ statement::returns-returns-else-stands_at-clause-exact t c = λ f.
 -- a block, a loop or a switch
 pub statement::labelled-returns-in_ok-block-in-Ok-clause-read : goal.statement::labelled-returns-in_ok-block-in-Ok-clause-read
 statement::labelled-returns-in_ok-block-in-Ok-clause-read t c = record {
-  value = (c.in-Some.open.at, g.block (stmts c.in-Ok.body.stmts.items));
+  value = (c.in-Some.open.at, g.block (stmts c.in-Ok.field-0.tree.part.items));
   is = c.in_ok-block-in-Ok.ensures;
-  found = at_tokens (one labelled_part) continues_statement c.args.depth c.args.tokens.now c.in-Some.open c.in-Some.inner.now (Yes (c.in-Some.open.at, g.block (stmts c.in-Ok.body.stmts.items)) c.in-Ok.height c.in-Ok.rest.now) c.in-Some.ensures.is
-      (alone_answer c.args.depth c.in-Some.open c.in-Some.inner.now (stmts c.in-Ok.body.stmts.items) _ c.in-Ok.height c.in-Ok.rest.now c.in-Some.ensures.kind c.in-Ok.ensures.exact);
+  found = at_tokens (one labelled_part) continues_statement c.args.depth c.args.tokens.now c.in-Some.open c.in-Some.inner.now (Yes (c.in-Some.open.at, g.block (stmts c.in-Ok.field-0.tree.part.items)) c.in-Ok.field-0.height c.in-Ok.field-0.rest.now) c.in-Some.ensures.is
+      (alone_answer c.args.depth c.in-Some.open c.in-Some.inner.now (stmts c.in-Ok.field-0.tree.part.items) _ c.in-Ok.field-0.height c.in-Ok.field-0.rest.now c.in-Some.ensures.kind c.in-Ok.ensures.exact);
 }
 
 pub statement::labelled-returns-in-Err-clause-refused : goal.statement::labelled-returns-in-Err-clause-refused
@@ -1612,7 +1601,7 @@ statement::labelled-returns-in-Err-clause-refused t c =
 
 pub statement::labelled-returns-in-Some-strip-clause-read : goal.statement::labelled-returns-in-Some-strip-clause-read
 statement::labelled-returns-in-Some-strip-clause-read t c =
-    subst (λ (l : List Token). IfOk c.loop_statement.result (λ r. LabelledRead c.args.label c.args.depth l (stmt r.0) r.1 r.2.now)) (sym c.in-Some-strip.ensures.is) (c.loop_statement.ensures.read c.in-Some-strip.ensures.kind)
+    subst (λ (l : List Token). IfOk c.loop_statement.result (λ r. LabelledRead c.args.label c.args.depth l (stmt r.tree) r.height r.rest.now)) (sym c.in-Some-strip.ensures.is) (c.loop_statement.ensures.read c.in-Some-strip.ensures.kind)
 
 pub statement::labelled-returns-in-Some-strip-clause-refused : goal.statement::labelled-returns-in-Some-strip-clause-refused
 statement::labelled-returns-in-Some-strip-clause-refused t c =
@@ -1644,15 +1633,15 @@ block::stmts-returns-in-Err-clause-exact t c =
 pub block::stmts-returns-then-height-from-clause-exact : goal.block::stmts-returns-then-height-from-clause-exact
 block::stmts-returns-then-height-from-clause-exact t c =
     because (one g.stmts) continues_statements c.args.depth c.args.tokens.now (stop.Deep (length c.in-Some.behind.now)) _ c.discard_stmts-then-height-from.ensures
-    (stmts_deep c.args.depth c.args.tokens.now c.statements.list.items (stmt c.in-Ok.read.0) c.max-height.result c.in-Ok.read.2.now c.in-Some._semicolon c.in-Some.behind.now
-    (stmt_read c.args.depth c.args.tokens.now c.statements.list.items c.statements.height c.behind_semicolons-start.result.now (stmt c.in-Ok.read.0) c.in-Ok.read.1 c.max-height.result c.in-Ok.read.2.now
+    (stmts_deep c.args.depth c.args.tokens.now c.statements.list.items (stmt c.in-Ok.read.tree) c.max-height.result c.in-Ok.read.rest.now c.in-Some._semicolon c.in-Some.behind.now
+    (stmt_read c.args.depth c.args.tokens.now c.statements.list.items c.statements.height c.behind_semicolons-start.result.now (stmt c.in-Ok.read.tree) c.in-Ok.read.height c.max-height.result c.in-Ok.read.rest.now
     (stmts_behind c.args.depth c.args.tokens.now c.statements.list.items c.statements.height c.behind_semicolons-start.ensures.skips c.statements.invariant.led c.statements.invariant.low) c.statements.invariant.low c.in-Ok.ensures.exact c.in-Ok.ensures.shorter c.max-height.ensures)
     (omega arith) c.in-Some.ensures.is c.in-Some.ensures.kind)
 
 pub block::stmts-statements-preserved : goal.block::stmts-statements-preserved
 block::stmts-statements-preserved t c = record {
-  led = stmts_again c.args.depth c.args.tokens.now c.statements.list.items _ c.in-Ok.read.0 c.max-height.result c.in-Ok.read.2.now c.in-Some._semicolon c.in-Some.behind.now
-      (stmt_read c.args.depth c.args.tokens.now c.statements.list.items c.statements.height c.behind_semicolons-start.result.now (stmt c.in-Ok.read.0) c.in-Ok.read.1 c.max-height.result c.in-Ok.read.2.now
+  led = stmts_again c.args.depth c.args.tokens.now c.statements.list.items _ c.in-Ok.read.tree c.max-height.result c.in-Ok.read.rest.now c.in-Some._semicolon c.in-Some.behind.now
+      (stmt_read c.args.depth c.args.tokens.now c.statements.list.items c.statements.height c.behind_semicolons-start.result.now (stmt c.in-Ok.read.tree) c.in-Ok.read.height c.max-height.result c.in-Ok.read.rest.now
       (stmts_behind c.args.depth c.args.tokens.now c.statements.list.items c.statements.height c.behind_semicolons-start.ensures.skips c.statements.invariant.led c.statements.invariant.low) c.statements.invariant.low c.in-Ok.ensures.exact c.in-Ok.ensures.shorter c.max-height.ensures)
       c.in_ok-list.ensures (omega arith) c.in-Some.ensures.is c.in-Some.ensures.kind;
   short = let longer = ap length c.in-Some.ensures.is in let read = c.in-Ok.ensures.shorter in let skipped = c.behind_semicolons-start.ensures.shorter in let before = c.statements.invariant.short in omega (arith, longer, read, skipped, before);
@@ -1661,8 +1650,8 @@ block::stmts-statements-preserved t c = record {
 
 pub block::stmts-returns-in-None-clause-exact : goal.block::stmts-returns-in-None-clause-exact
 block::stmts-returns-in-None-clause-exact t c =
-    stmts_last_answer c.args.depth c.args.tokens.now c.statements.list.items _ c.in-Ok.read.0 c.max-height.result c.in-Ok.read.2.now
-    (stmt_read c.args.depth c.args.tokens.now c.statements.list.items c.statements.height c.behind_semicolons-start.result.now (stmt c.in-Ok.read.0) c.in-Ok.read.1 c.max-height.result c.in-Ok.read.2.now
+    stmts_last_answer c.args.depth c.args.tokens.now c.statements.list.items _ c.in-Ok.read.tree c.max-height.result c.in-Ok.read.rest.now
+    (stmt_read c.args.depth c.args.tokens.now c.statements.list.items c.statements.height c.behind_semicolons-start.result.now (stmt c.in-Ok.read.tree) c.in-Ok.read.height c.max-height.result c.in-Ok.read.rest.now
     (stmts_behind c.args.depth c.args.tokens.now c.statements.list.items c.statements.height c.behind_semicolons-start.ensures.skips c.statements.invariant.led c.statements.invariant.low) c.statements.invariant.low c.in-Ok.ensures.exact c.in-Ok.ensures.shorter c.max-height.ensures)
     c.in_ok-list.ensures c.in-None.ensures.none
 
@@ -1672,7 +1661,7 @@ block::braces-returns-in-Err-clause-exact t c = braces_refused c.args.depth c.ar
 
 pub block::braces-returns-in-Ok-expect-clause-exact : goal.block::braces-returns-in-Ok-expect-clause-exact
 block::braces-returns-in-Ok-expect-clause-exact t c =
-    braces_answer c.args.depth c.args.tokens.now (stmts c.in-Ok.read.0.items) c.in-Ok.read.1 c.in-Ok.read.2.now c.in-Ok-expect.close c.in-Ok-expect.after.now c.in-Ok.ensures.exact (c.within.ensures.0 c.in-Ok-expect.ensures.within) c.in-Ok-expect.ensures.is c.in-Ok-expect.ensures.kind
+    braces_answer c.args.depth c.args.tokens.now (stmts c.in-Ok.read.tree.items) c.in-Ok.read.height c.in-Ok.read.rest.now c.in-Ok-expect.close c.in-Ok-expect.after.now c.in-Ok.ensures.exact (c.within.ensures.0 c.in-Ok-expect.ensures.within) c.in-Ok-expect.ensures.is c.in-Ok-expect.ensures.kind
 
 pub block::braces-returns-in-Ok-expect-clause-low : goal.block::braces-returns-in-Ok-expect-clause-low
 block::braces-returns-in-Ok-expect-clause-low t c = c.within.ensures.0 c.in-Ok-expect.ensures.within
@@ -1680,10 +1669,10 @@ block::braces-returns-in-Ok-expect-clause-low t c = c.within.ensures.0 c.in-Ok-e
 pub block::braces-returns-in-Err-expect-clause-exact : goal.block::braces-returns-in-Err-expect-clause-exact
 block::braces-returns-in-Err-expect-clause-exact t c =
     because braces_line nothing_continues c.args.depth c.args.tokens.now c.in-Err-expect.error _ c.discard_stmts.ensures
-    (braces_unclosed c.args.depth c.args.tokens.now (stmts c.in-Ok.read.0.items) c.in-Ok.read.1 c.in-Ok.read.2.now c.in-Err-expect.error _ c.in-Ok.ensures.exact (λ over. over_by _ _ _ c.within.ensures.1 over) c.in-Err-expect.ensures.refused)
+    (braces_unclosed c.args.depth c.args.tokens.now (stmts c.in-Ok.read.tree.items) c.in-Ok.read.height c.in-Ok.read.rest.now c.in-Err-expect.error _ c.in-Ok.ensures.exact (λ over. over_by _ _ _ c.within.ensures.1 over) c.in-Err-expect.ensures.refused)
 
 pub block::body-returns-in-Ok-clause-exact : goal.block::body-returns-in-Ok-clause-exact
-block::body-returns-in-Ok-clause-exact t c = body_answer c.args.depth c.args.tokens.now c.in-Some._open c.in-Some.inner.now (stmts c.in-Ok.block.stmts.items) _ c.in-Ok.height c.in-Ok.rest.now c.in-Some.ensures.is c.in-Some.ensures.kind c.in-Ok.ensures.exact
+block::body-returns-in-Ok-clause-exact t c = body_answer c.args.depth c.args.tokens.now c.in-Some._open c.in-Some.inner.now (stmts c.in-Ok.field-0.tree.part.items) _ c.in-Ok.field-0.height c.in-Ok.field-0.rest.now c.in-Some.ensures.is c.in-Some.ensures.kind c.in-Ok.ensures.exact
 
 pub block::body-returns-in-Err-clause-exact : goal.block::body-returns-in-Err-clause-exact
 block::body-returns-in-Err-clause-exact t c = body_refused c.args.depth c.args.tokens.now c.in-Some._open c.in-Some.inner.now c.in-Err.error c.in-Some.ensures.is c.in-Some.ensures.kind c.in-Err.ensures.exact
@@ -1693,8 +1682,8 @@ block::body-returns-in-None-clause-exact t c = no_body c.args.depth c.args.token
 
 pub block::body-returns-in_ok-list-in-Ok-statement-clause-exact : goal.block::body-returns-in_ok-list-in-Ok-statement-clause-exact
 block::body-returns-in_ok-list-in-Ok-statement-clause-exact t c =
-    answer_is (sym (ap stmts (c.in_ok-list-in-Ok-statement.ensures ∙ ap (λ (l : List Stmt). l ++ c.in-Ok-statement.s ∷ []) c.new-none.ensures.items))) refl
-    (do_answer c.args.depth c.args.tokens.now c.in-Some-strip._do c.in-Some-strip.behind.now (stmt c.in-Ok-statement.s) c.in-Ok-statement.height c.in-Ok-statement.rest.now c.in-Some-strip.ensures.is c.in-Some-strip.ensures.kind c.in-Ok-statement.ensures.exact)
+    answer_is (sym (ap stmts (c.in_ok-list-in-Ok-statement.ensures ∙ ap (λ (l : List Stmt). l ++ c.in-Ok-statement.field-0.tree ∷ []) c.new-none.ensures.items))) refl
+    (do_answer c.args.depth c.args.tokens.now c.in-Some-strip._do c.in-Some-strip.behind.now (stmt c.in-Ok-statement.field-0.tree) c.in-Ok-statement.field-0.height c.in-Ok-statement.field-0.rest.now c.in-Some-strip.ensures.is c.in-Some-strip.ensures.kind c.in-Ok-statement.ensures.exact)
 
 pub block::body-returns-in-Err-statement-clause-exact : goal.block::body-returns-in-Err-statement-clause-exact
 block::body-returns-in-Err-statement-clause-exact t c = do_refused c.args.depth c.args.tokens.now c.in-Some-strip._do c.in-Some-strip.behind.now c.in-Err-statement.error c.in-Some-strip.ensures.is c.in-Some-strip.ensures.kind c.in-Err-statement.ensures.exact
@@ -1704,8 +1693,8 @@ block::block-returns-in-None-clause-exact t c = no_block c.args.depth c.args.tok
 
 pub block::block-returns-in-Ok-clause-exact : goal.block::block-returns-in-Ok-clause-exact
 block::block-returns-in-Ok-clause-exact t c =
-    from_token (one (g.block_ Free)) c.args.depth c.args.tokens.now c.in-Some._open c.in-Some.inner.now (Yes (stmts c.in-Ok.block.stmts.items) c.in-Ok.height c.in-Ok.rest.now) c.in-Some.ensures.is
-    (block_answer c.args.depth c.in-Some._open c.in-Some.inner.now (stmts c.in-Ok.block.stmts.items) _ c.in-Ok.height c.in-Ok.rest.now c.in-Some.ensures.kind c.in-Ok.ensures.exact)
+    from_token (one (g.block_ Free)) c.args.depth c.args.tokens.now c.in-Some._open c.in-Some.inner.now (Yes (stmts c.in-Ok.field-0.tree.part.items) c.in-Ok.field-0.height c.in-Ok.field-0.rest.now) c.in-Some.ensures.is
+    (block_answer c.args.depth c.in-Some._open c.in-Some.inner.now (stmts c.in-Ok.field-0.tree.part.items) _ c.in-Ok.field-0.height c.in-Ok.field-0.rest.now c.in-Some.ensures.kind c.in-Ok.ensures.exact)
 
 pub block::block-returns-in-Err-clause-exact : goal.block::block-returns-in-Err-clause-exact
 block::block-returns-in-Err-clause-exact t c =
@@ -1728,8 +1717,8 @@ pub conditional::if_statement-returns-then-n-from-clause-exact : goal.conditiona
 conditional::if_statement-returns-then-n-from-clause-exact t c =
     refused_depth (one g.if_statement) continues_statement c.args.depth (c.args.depth - 1) c.args.tokens.now c.discard_head.result (omega arith)
     (because (one g.if_statement) continues_statement (suc (c.args.depth - 1)) c.args.tokens.now c.body_over.result _ c.discard_head.ensures
-    (if_over (c.args.depth - 1) c.args.tokens.now c.in-Some.found.0 (head_of c.in-Ok.read.0).0 (head_of c.in-Ok.read.0).1.0 c.in-Ok.read.1 c.in-Ok.read.2.now c.body_over.result
-    (if_head_read (c.args.depth - 1) c.args.tokens.now c.in-Some.found.0 c.in-Some.found.1.now (head_of c.in-Ok.read.0).0 (head_of c.in-Ok.read.0).1.0 c.in-Ok.read.1 c.in-Ok.read.2.now c.in-Some.ensures.is c.in-Some.ensures.kind c.in-Ok.ensures.exact)
+    (if_over (c.args.depth - 1) c.args.tokens.now c.in-Some.found.0 (head_of c.in-Ok.read.tree).0 (head_of c.in-Ok.read.tree).1.0 c.in-Ok.read.height c.in-Ok.read.rest.now c.body_over.result
+    (if_head_read (c.args.depth - 1) c.args.tokens.now c.in-Some.found.0 c.in-Some.found.1.now (head_of c.in-Ok.read.tree).0 (head_of c.in-Ok.read.tree).1.0 c.in-Ok.read.height c.in-Ok.read.rest.now c.in-Some.ensures.is c.in-Some.ensures.kind c.in-Ok.ensures.exact)
     (omega arith) c.body_over.ensures))
 
 pub conditional::if_statement-returns-in-Ok-body-clause-exact : goal.conditional::if_statement-returns-in-Ok-body-clause-exact
@@ -1741,9 +1730,9 @@ conditional::if_statement-returns-in-Ok-body-clause-exact t c =
       is = c.in-Some.ensures.is;
       kind = c.in-Some.ensures.kind;
       place = refl;
-      n = c.in-Ok.read.1;
-      m = c.in-Ok-body.m;
-      body = c.in-Ok.read.2.now;
+      n = c.in-Ok.read.height;
+      m = c.in-Ok-body.field-0.height;
+      body = c.in-Ok.read.rest.now;
       head_found = c.in-Ok.ensures.exact;
       within = omega arith;
       body_found = c.in-Ok-body.ensures.exact;
@@ -1754,14 +1743,11 @@ pub conditional::if_statement-returns-in-Err-body-clause-exact : goal.conditiona
 conditional::if_statement-returns-in-Err-body-clause-exact t c =
     refused_depth (one g.if_statement) continues_statement c.args.depth (c.args.depth - 1) c.args.tokens.now c.discard_head-in-Err-body.result (omega arith)
     (because (one g.if_statement) continues_statement (suc (c.args.depth - 1)) c.args.tokens.now c.in-Err-body.error _ c.discard_head-in-Err-body.ensures
-    (if_body_refused (c.args.depth - 1) c.args.tokens.now c.in-Some.found.0 (head_of c.in-Ok.read.0).0 (head_of c.in-Ok.read.0).1.0 c.in-Ok.read.1 c.in-Ok.read.2.now c.in-Err-body.error
-    (if_head_read (c.args.depth - 1) c.args.tokens.now c.in-Some.found.0 c.in-Some.found.1.now (head_of c.in-Ok.read.0).0 (head_of c.in-Ok.read.0).1.0 c.in-Ok.read.1 c.in-Ok.read.2.now c.in-Some.ensures.is c.in-Some.ensures.kind c.in-Ok.ensures.exact)
+    (if_body_refused (c.args.depth - 1) c.args.tokens.now c.in-Some.found.0 (head_of c.in-Ok.read.tree).0 (head_of c.in-Ok.read.tree).1.0 c.in-Ok.read.height c.in-Ok.read.rest.now c.in-Err-body.error
+    (if_head_read (c.args.depth - 1) c.args.tokens.now c.in-Some.found.0 c.in-Some.found.1.now (head_of c.in-Ok.read.tree).0 (head_of c.in-Ok.read.tree).1.0 c.in-Ok.read.height c.in-Ok.read.rest.now c.in-Some.ensures.is c.in-Some.ensures.kind c.in-Ok.ensures.exact)
     (omega arith) c.in-Err-body.ensures.exact))
 
 -- what stands behind the body
-pub conditional::otherwise-returns-then-height-most-clause-exact : goal.conditional::otherwise-returns-then-height-most-clause-exact
-conditional::otherwise-returns-then-height-most-clause-exact t c = λ ts read. because (one g.if_statement) continues_statement (suc c.args.depth) ts stop.Memory _ c.discard_if.ensures tt
-
 pub conditional::otherwise-returns-in-None-clause-exact : goal.conditional::otherwise-returns-in-None-clause-exact
 conditional::otherwise-returns-in-None-clause-exact t c = λ ts z.
     answer_is (placed_so c.args.at z.first.at _ _ z.place c.in_ok-s-in-None.ensures) (omega arith)
@@ -1769,14 +1755,14 @@ conditional::otherwise-returns-in-None-clause-exact t c = λ ts z.
 
 pub conditional::otherwise-returns-then-height-from-clause-exact : goal.conditional::otherwise-returns-then-height-from-clause-exact
 conditional::otherwise-returns-then-height-from-clause-exact t c = λ ts z.
-    because (one g.if_statement) continues_statement (suc c.args.depth) ts (stop.Deep (length c.in-Some.found.1.now)) _ c.discard_if-then-height-from.ensures
+    because (one g.if_statement) continues_statement (suc c.args.depth) ts (stop.Deep (length c.in-Some.found.1.now)) _ c.discard_if.ensures
     (else_over c.args.depth ts z.first (head_of c.args.head).0 (head_of c.args.head).1.0 (stmts c.args.block.items) c.args.height c.args.tokens.now c.in-Some.found.0 c.in-Some.found.1.now
     (if_read c.args.depth ts c.args.at (head_of c.args.head) (stmts c.args.block.items) c.args.height c.args.tokens.now z) (omega arith) c.in-Some.ensures.is c.in-Some.ensures.kind)
 
 pub conditional::otherwise-returns-in_ok-conditional-in-Ok-clause-exact : goal.conditional::otherwise-returns-in_ok-conditional-in-Ok-clause-exact
 conditional::otherwise-returns-in_ok-conditional-in-Ok-clause-exact t c = λ ts z.
     answer_is (placed_so c.args.at z.first.at _ _ z.place c.in_ok-conditional-in-Ok.ensures) refl
-    (elif_answer c.args.depth ts z.first (head_of c.args.head).0 (head_of c.args.head).1.0 (stmts c.args.block.items) c.args.height c.args.tokens.now c.in-Some.found.0 c.in-Some.found.1.now c.in-Some-strip._if c.in-Some-strip._after.now (stmt c.in-Ok.s) c.in-Ok.n _ c.in-Ok.after.now
+    (elif_answer c.args.depth ts z.first (head_of c.args.head).0 (head_of c.args.head).1.0 (stmts c.args.block.items) c.args.height c.args.tokens.now c.in-Some.found.0 c.in-Some.found.1.now c.in-Some-strip._if c.in-Some-strip._after.now (stmt c.in-Ok.field-0.tree) c.in-Ok.field-0.height _ c.in-Ok.field-0.rest.now
     (if_read c.args.depth ts c.args.at (head_of c.args.head) (stmts c.args.block.items) c.args.height c.args.tokens.now z) (omega arith) c.in-Some.ensures.is c.in-Some.ensures.kind c.in-Some-strip.ensures.is c.in-Some-strip.ensures.kind c.in-Ok.ensures.exact (omega (arith, c.max.ensures)))
 
 pub conditional::otherwise-returns-in-Err-clause-exact : goal.conditional::otherwise-returns-in-Err-clause-exact
@@ -1788,7 +1774,7 @@ conditional::otherwise-returns-in-Err-clause-exact t c = λ ts z.
 pub conditional::otherwise-returns-in_ok-conditional-in-Ok-body-clause-exact : goal.conditional::otherwise-returns-in_ok-conditional-in-Ok-body-clause-exact
 conditional::otherwise-returns-in_ok-conditional-in-Ok-body-clause-exact t c = λ ts z.
     answer_is (placed_so c.args.at z.first.at _ _ z.place c.in_ok-conditional-in-Ok-body.ensures) refl
-    (else_answer c.args.depth ts z.first (head_of c.args.head).0 (head_of c.args.head).1.0 (stmts c.args.block.items) c.args.height c.args.tokens.now c.in-Some.found.0 c.in-Some.found.1.now (stmts c.in-Ok-body.other.items) c.in-Ok-body.n _ c.in-Ok-body.after.now
+    (else_answer c.args.depth ts z.first (head_of c.args.head).0 (head_of c.args.head).1.0 (stmts c.args.block.items) c.args.height c.args.tokens.now c.in-Some.found.0 c.in-Some.found.1.now (stmts c.in-Ok-body.field-0.tree.items) c.in-Ok-body.field-0.height _ c.in-Ok-body.field-0.rest.now
     (if_read c.args.depth ts c.args.at (head_of c.args.head) (stmts c.args.block.items) c.args.height c.args.tokens.now z) (omega arith) c.in-Some.ensures.is c.in-Some.ensures.kind c.in_default.ensures.none c.in-Ok-body.ensures.exact (omega (arith, c.max-in-Ok-body.ensures)))
 
 pub conditional::otherwise-returns-in-Err-body-clause-exact : goal.conditional::otherwise-returns-in-Err-body-clause-exact
@@ -1804,7 +1790,7 @@ conditional::before_body-returns-then-depth-eq0-clause-exact t c = head_zero c.a
 pub conditional::before_body-returns-in-Ok-clause-exact : goal.conditional::before_body-returns-in-Ok-clause-exact
 conditional::before_body-returns-in-Ok-clause-exact t c =
     c.closed.ensures.exact c.args.tokens.now
-    (declared c.in-Declared.ensures.0 (decl c.in-Ok.d) c.in-Ok.n c.in-Ok.rest.now (omega arith) c.in-Declared.ensures.1 c.in-Ok.ensures.exact)
+    (declared c.in-Declared.ensures.0 (decl c.in-Ok.field-0.tree) c.in-Ok.field-0.height c.in-Ok.field-0.rest.now (omega arith) c.in-Declared.ensures.1 c.in-Ok.ensures.exact)
 
 pub conditional::before_body-returns-in-Err-clause-exact : goal.conditional::before_body-returns-in-Err-clause-exact
 conditional::before_body-returns-in-Err-clause-exact t c = head_declaration_refused c.args.depth c.args.tokens.now c.in-Declared.ensures.0 c.in-Err.error (omega arith) c.in-Declared.ensures.1 c.in-Err.ensures.exact
@@ -1815,7 +1801,7 @@ conditional::before_body-returns-then-depth-eq1-clause-exact t c = head_run_over
 pub conditional::before_body-returns-in-Ok-simple-clause-exact : goal.conditional::before_body-returns-in-Ok-simple-clause-exact
 conditional::before_body-returns-in-Ok-simple-clause-exact t c =
     c.closed-in-Ok-simple.ensures.exact c.args.tokens.now
-    (listed c.in-Listed.ensures.0 (stmt c.in-Ok-simple.s) c.in-Ok-simple.n c.in-Ok-simple.rest.now (omega arith) c.in-Listed.ensures.1 c.in-Ok-simple.ensures.exact)
+    (listed c.in-Listed.ensures.0 (stmt c.in-Ok-simple.field-0.tree) c.in-Ok-simple.field-0.height c.in-Ok-simple.field-0.rest.now (omega arith) c.in-Listed.ensures.1 c.in-Ok-simple.ensures.exact)
 
 pub conditional::before_body-returns-in-Err-simple-clause-exact : goal.conditional::before_body-returns-in-Err-simple-clause-exact
 conditional::before_body-returns-in-Err-simple-clause-exact t c =
@@ -1847,9 +1833,9 @@ conditional::behind_expression-returns-then-same_kind-clause-exact t c = λ ts p
 pub conditional::behind_expression-returns-in-Ok-clause-exact : goal.conditional::behind_expression-returns-in-Ok-clause-exact
 conditional::behind_expression-returns-in-Ok-clause-exact t c = λ ts place z.
     c.closed.ensures.exact ts
-    (begun (c.args.depth - 1) place (expr c.args.e) c.args.height c.args.tokens.now c.in-Some.found.0 c.in-Some.found.1.now (stmt c.in-Ok.s) c.in-Ok.n c.in-Ok.rest.now (omega arith) z (omega arith) c.in-Some.ensures.is
+    (begun (c.args.depth - 1) place (expr c.args.e) c.args.height c.args.tokens.now c.in-Some.found.0 c.in-Some.found.1.now (stmt c.in-Ok.field-0.tree) c.in-Ok.field-0.height c.in-Ok.field-0.rest.now (omega arith) z (omega arith) c.in-Some.ensures.is
     (goes_behind c.in-Some.found.0.kind c.in-Some.ensures.on (λ e. let bad : true ≡ false = sym (c.same_kind.ensures.1 e) ∙ c.if-same_kind.false in cc))
-    (at_depth (one (g.simple mode.Header)) (continues_simple mode.Header) c.args.depth (c.args.depth - 1) ts (Yes (stmt c.in-Ok.s) c.in-Ok.n c.in-Ok.rest.now) (omega arith) (c.in-Ok.ensures.exact ts (lower_found (omega arith) z.found))))
+    (at_depth (one (g.simple mode.Header)) (continues_simple mode.Header) c.args.depth (c.args.depth - 1) ts (Yes (stmt c.in-Ok.field-0.tree) c.in-Ok.field-0.height c.in-Ok.field-0.rest.now) (omega arith) (c.in-Ok.ensures.exact ts (lower_found (omega arith) z.found))))
 
 pub conditional::behind_expression-returns-in-Err-clause-exact : goal.conditional::behind_expression-returns-in-Err-clause-exact
 conditional::behind_expression-returns-in-Err-clause-exact t c = λ ts place z.
@@ -1871,7 +1857,7 @@ conditional::closed-returns-in-Err-clause-exact t c = λ ts z.
 
 pub conditional::condition-returns-in-Ok-clause-exact : goal.conditional::condition-returns-in-Ok-clause-exact
 conditional::condition-returns-in-Ok-clause-exact t c = λ ts z.
-    condition_answer c.args.depth ts (header_of c.args.header) c.args.height c.args.tokens.now (expr c.in-Ok.e) c.in-Ok.n _ c.in-Ok.rest.now (condition_at c.args.depth ts (header_of c.args.header) c.args.height c.args.tokens.now z)
+    condition_answer c.args.depth ts (header_of c.args.header) c.args.height c.args.tokens.now (expr c.in-Ok.field-0.tree) c.in-Ok.field-0.height _ c.in-Ok.field-0.rest.now (condition_at c.args.depth ts (header_of c.args.header) c.args.height c.args.tokens.now z)
     (condition_within c.args.depth ts (header_of c.args.header) c.args.height c.args.tokens.now z) c.in-Ok.ensures.exact c.max.ensures
 
 pub conditional::condition-returns-in-Err-clause-exact : goal.conditional::condition-returns-in-Err-clause-exact
@@ -1895,7 +1881,7 @@ spans::span_from-returns-then-height-from-clause-exact t c = λ ts found.
 pub spans::span_from-returns-in-Ok-clause-exact : goal.spans::span_from-returns-in-Ok-clause-exact
 spans::span_from-returns-in-Ok-clause-exact t c = λ ts found.
     answer_is (sym c.through.ensures) refl
-    (through_answer c.args.mode c.args.depth ts (expr c.args.from) c.args.height c.args.tokens.now c.in-Some._through c.in-Some.behind.now (expr c.in-Ok.to) c.in-Ok.n c.max.result c.in-Ok.rest.now
+    (through_answer c.args.mode c.args.depth ts (expr c.args.from) c.args.height c.args.tokens.now c.in-Some._through c.in-Some.behind.now (expr c.in-Ok.field-0.tree) c.in-Ok.field-0.height c.max.result c.in-Ok.field-0.rest.now
     (from_read c.args.mode c.args.depth ts (expr c.args.from) c.args.height c.args.tokens.now found) (omega arith) c.in-Some.ensures.is c.in-Some.ensures.kind c.in-Ok.ensures.exact (omega (arith, c.max.ensures)))
 
 pub spans::span_from-returns-in-Err-clause-exact : goal.spans::span_from-returns-in-Err-clause-exact
@@ -1912,7 +1898,7 @@ spans::span_from-returns-then-height-from-2-clause-exact t c = λ ts found.
 pub spans::span_from-returns-in-Ok-level-clause-exact : goal.spans::span_from-returns-in-Ok-level-clause-exact
 spans::span_from-returns-in-Ok-level-clause-exact t c = λ ts found.
     answer_is (sym c.below.ensures) refl
-    (below_answer c.args.mode c.args.depth ts (expr c.args.from) c.args.height c.args.tokens.now c.in-Some-strip._below c.in-Some-strip.behind.now (expr c.in-Ok-level.to) c.in-Ok-level.n c.max-in-Ok-level.result c.in-Ok-level.rest.now
+    (below_answer c.args.mode c.args.depth ts (expr c.args.from) c.args.height c.args.tokens.now c.in-Some-strip._below c.in-Some-strip.behind.now (expr c.in-Ok-level.field-0.tree) c.in-Ok-level.field-0.height c.max-in-Ok-level.result c.in-Ok-level.field-0.rest.now
     (from_read c.args.mode c.args.depth ts (expr c.args.from) c.args.height c.args.tokens.now found) (omega arith) c.in-Some-strip.ensures.is c.in-Some-strip.ensures.kind c.in-Ok-level.ensures.exact (omega (arith, c.max-in-Ok-level.ensures)))
 
 pub spans::span_from-returns-in-Err-level-clause-exact : goal.spans::span_from-returns-in-Err-level-clause-exact
@@ -1960,7 +1946,7 @@ spans::items_from-returns-in-Err-clause-exact t c = λ ts shorter found.
 pub spans::items_from-items-preserved : goal.spans::items_from-items-preserved
 spans::items_from-items-preserved t c = record {
   led = λ ts shorter found.
-      items_more_read c.args.depth ts c.items.list.items c.in_ok-list-2.list.items c.items.top c.items.rest.now c.in-Some._comma c.in-Some.behind.now c.in-Ok.read.0 c.in-Ok.read.1 c.max-top.result c.in-Ok.read.2.now (c.items.invariant.led ts shorter found) (omega arith)
+      items_more_read c.args.depth ts c.items.list.items c.in_ok-list-2.list.items c.items.top c.items.rest.now c.in-Some._comma c.in-Some.behind.now c.in-Ok.read.tree c.in-Ok.read.height c.max-top.result c.in-Ok.read.rest.now (c.items.invariant.led ts shorter found) (omega arith)
       c.in-Some.ensures.is c.in-Some.ensures.kind c.in-Ok.ensures.exact c.in_ok-list-2.ensures (omega (arith, c.max-top.ensures));
   short = let longer = ap length c.in-Some.ensures.is in let read = c.in-Ok.ensures.shorter in let before = c.items.invariant.short in omega (arith, longer, read, before);
   low = λ h. let read = c.in-Ok.ensures.low in let before = c.items.invariant.low h in omega (arith, c.max-top.ensures, read, before);
@@ -1987,8 +1973,8 @@ cases::cases-returns-in-Err-clause-exact t c =
 pub cases::cases-returns-in-Err-expect-clause-exact : goal.cases::cases-returns-in-Err-expect-clause-exact
 cases::cases-returns-in-Err-expect-clause-exact t c =
     because (one g.cases) continues_cases c.args.depth c.args.tokens.now c.in-Err-expect.error c.discard_values.result c.discard_values.ensures
-    (case_no_colon c.args.depth c.args.tokens.now c.cases.list.items c.in-Some.word.at (spans c.in-Ok.read.0.items) (max c.cases.height c.in-Ok.read.1) c.in-Ok.read.2.now c.in-Err-expect.error _
-    (case_items c.args.depth c.args.tokens.now c.cases.list.items c.in-Some.word.at c.cases.height c.in-Some.behind.now (spans c.in-Ok.read.0.items) c.in-Ok.read.1 c.in-Ok.read.2.now
+    (case_no_colon c.args.depth c.args.tokens.now c.cases.list.items c.in-Some.word.at (spans c.in-Ok.read.tree.items) (max c.cases.height c.in-Ok.read.height) c.in-Ok.read.rest.now c.in-Err-expect.error _
+    (case_items c.args.depth c.args.tokens.now c.cases.list.items c.in-Some.word.at c.cases.height c.in-Some.behind.now (spans c.in-Ok.read.tree.items) c.in-Ok.read.height c.in-Ok.read.rest.now
     (case_at c.args.depth c.args.tokens.now c.cases.list.items c.cases.height c.cases.rest.now c.in-Some.word c.in-Some.behind.now c.cases.invariant.led (omega arith) c.in-Some.ensures.is c.in-Some.ensures.kind) (omega arith) c.in-Ok.ensures.exact)
     (λ over. let deep = over_by _ c.max-top.result c.args.depth c.within.ensures.1 over in omega (arith, c.max-top.ensures, deep)) c.in-Err-expect.ensures.refused)
 
@@ -1996,9 +1982,9 @@ pub cases::cases-returns-in-Err-stmts-clause-exact : goal.cases::cases-returns-i
 cases::cases-returns-in-Err-stmts-clause-exact t c =
     because (one g.cases) continues_cases c.args.depth c.args.tokens.now c.in-Err-stmts.error c.discard_values-in-Err-stmts.result c.discard_values-in-Err-stmts.ensures
     (let low = c.within.ensures.0 c.in-Ok-expect.ensures.within in
-    case_body_refused c.args.depth c.args.tokens.now c.cases.list.items c.in-Some.word.at (spans c.in-Ok.read.0.items) (max c.cases.height c.in-Ok.read.1) c.in-Ok-expect.inner.now c.in-Err-stmts.error
-    (case_colon c.args.depth c.args.tokens.now c.cases.list.items c.in-Some.word.at (spans c.in-Ok.read.0.items) (max c.cases.height c.in-Ok.read.1) c.in-Ok.read.2.now c.in-Ok-expect._colon c.in-Ok-expect.inner.now
-    (case_items c.args.depth c.args.tokens.now c.cases.list.items c.in-Some.word.at c.cases.height c.in-Some.behind.now (spans c.in-Ok.read.0.items) c.in-Ok.read.1 c.in-Ok.read.2.now
+    case_body_refused c.args.depth c.args.tokens.now c.cases.list.items c.in-Some.word.at (spans c.in-Ok.read.tree.items) (max c.cases.height c.in-Ok.read.height) c.in-Ok-expect.inner.now c.in-Err-stmts.error
+    (case_colon c.args.depth c.args.tokens.now c.cases.list.items c.in-Some.word.at (spans c.in-Ok.read.tree.items) (max c.cases.height c.in-Ok.read.height) c.in-Ok.read.rest.now c.in-Ok-expect._colon c.in-Ok-expect.inner.now
+    (case_items c.args.depth c.args.tokens.now c.cases.list.items c.in-Some.word.at c.cases.height c.in-Some.behind.now (spans c.in-Ok.read.tree.items) c.in-Ok.read.height c.in-Ok.read.rest.now
     (case_at c.args.depth c.args.tokens.now c.cases.list.items c.cases.height c.cases.rest.now c.in-Some.word c.in-Some.behind.now c.cases.invariant.led (omega arith) c.in-Some.ensures.is c.in-Some.ensures.kind) (omega arith) c.in-Ok.ensures.exact)
     (omega (arith, low, c.max-top.ensures)) c.in-Ok-expect.ensures.is c.in-Ok-expect.ensures.kind)
     (omega (arith, low, c.max-top.ensures)) c.in-Err-stmts.ensures.exact)
@@ -2008,10 +1994,10 @@ cases::cases-cases-preserved t c =
     let low = c.within.ensures.0 c.in-Ok-expect.ensures.within in
     record {
       led =
-          case_answer c.args.depth c.args.tokens.now c.cases.list.items c.in_ok-list.list.items (record { at = c.in-Some.word.at; items = c.in-Ok.read.0; body = c.in-Ok-stmts.read.0 }) c.in-Some.word.at (spans c.in-Ok.read.0.items) (stmts c.in-Ok-stmts.read.0.items) (max c.cases.height c.in-Ok.read.1) c.in-Ok-expect.inner.now c.in-Ok-stmts.read.1 c.max-height.result c.in-Ok-stmts.read.2.now
+          case_answer c.args.depth c.args.tokens.now c.cases.list.items c.in_ok-list.list.items (record { at = c.in-Some.word.at; items = c.in-Ok.read.tree; body = c.in-Ok-stmts.read.tree }) c.in-Some.word.at (spans c.in-Ok.read.tree.items) (stmts c.in-Ok-stmts.read.tree.items) (max c.cases.height c.in-Ok.read.height) c.in-Ok-expect.inner.now c.in-Ok-stmts.read.height c.max-height.result c.in-Ok-stmts.read.rest.now
           (λ l. refl)
-          (case_colon c.args.depth c.args.tokens.now c.cases.list.items c.in-Some.word.at (spans c.in-Ok.read.0.items) (max c.cases.height c.in-Ok.read.1) c.in-Ok.read.2.now c.in-Ok-expect._colon c.in-Ok-expect.inner.now
-          (case_items c.args.depth c.args.tokens.now c.cases.list.items c.in-Some.word.at c.cases.height c.in-Some.behind.now (spans c.in-Ok.read.0.items) c.in-Ok.read.1 c.in-Ok.read.2.now
+          (case_colon c.args.depth c.args.tokens.now c.cases.list.items c.in-Some.word.at (spans c.in-Ok.read.tree.items) (max c.cases.height c.in-Ok.read.height) c.in-Ok.read.rest.now c.in-Ok-expect._colon c.in-Ok-expect.inner.now
+          (case_items c.args.depth c.args.tokens.now c.cases.list.items c.in-Some.word.at c.cases.height c.in-Some.behind.now (spans c.in-Ok.read.tree.items) c.in-Ok.read.height c.in-Ok.read.rest.now
           (case_at c.args.depth c.args.tokens.now c.cases.list.items c.cases.height c.cases.rest.now c.in-Some.word c.in-Some.behind.now c.cases.invariant.led (omega arith) c.in-Some.ensures.is c.in-Some.ensures.kind) (omega arith) c.in-Ok.ensures.exact)
           (omega (arith, low, c.max-top.ensures)) c.in-Ok-expect.ensures.is c.in-Ok-expect.ensures.kind)
           (omega (arith, low, c.max-top.ensures)) c.in-Ok-stmts.ensures.exact c.in_ok-list.ensures (omega (arith, c.max-top.ensures, c.max-height.ensures));
@@ -2031,7 +2017,7 @@ cases::cases-returns-clause-exact t c = cases_answer c.args.depth c.args.tokens.
 -- what stands before the cases
 pub switches::before_cases-returns-in-Ok-clause-exact : goal.switches::before_cases-returns-in-Ok-clause-exact
 switches::before_cases-returns-in-Ok-clause-exact t c =
-    typed_answer c.args.depth c.args.tokens.now c.in-Some.name c.in-Some.mark c.in-Some.rest.now (expr c.in-Ok.e) c.in-Ok.n c.in-Ok.after.now c.in-Some.ensures.is c.in-Some.ensures.name c.in-Some.ensures.mark c.in-Ok.ensures.exact
+    typed_answer c.args.depth c.args.tokens.now c.in-Some.name c.in-Some.mark c.in-Some.rest.now (expr c.in-Ok.field-0.tree) c.in-Ok.field-0.height c.in-Ok.field-0.rest.now c.in-Some.ensures.is c.in-Some.ensures.name c.in-Some.ensures.mark c.in-Ok.ensures.exact
 
 pub switches::before_cases-returns-in-Err-clause-exact : goal.switches::before_cases-returns-in-Err-clause-exact
 switches::before_cases-returns-in-Err-clause-exact t c =
@@ -2043,7 +2029,7 @@ switches::before_cases-returns-then-depth-eq0-clause-exact t c = bound_is switch
 pub switches::before_cases-returns-in-Ok-declaration-clause-exact : goal.switches::before_cases-returns-in-Ok-declaration-clause-exact
 switches::before_cases-returns-in-Ok-declaration-clause-exact t c =
     c.closed.ensures.exact c.args.tokens.now c.in_default.ensures.none
-    (header.declared c.in-Declared.ensures.0 (decl c.in-Ok-declaration.d) c.in-Ok-declaration.n c.in-Ok-declaration.rest.now (omega arith) c.in-Declared.ensures.1 c.in-Ok-declaration.ensures.exact)
+    (header.declared c.in-Declared.ensures.0 (decl c.in-Ok-declaration.field-0.tree) c.in-Ok-declaration.field-0.height c.in-Ok-declaration.field-0.rest.now (omega arith) c.in-Declared.ensures.1 c.in-Ok-declaration.ensures.exact)
 
 pub switches::before_cases-returns-in-Err-declaration-clause-exact : goal.switches::before_cases-returns-in-Err-declaration-clause-exact
 switches::before_cases-returns-in-Err-declaration-clause-exact t c =
@@ -2093,7 +2079,7 @@ switches::listed-returns-then-depth-le1-clause-exact t c = λ place some untyped
 pub switches::listed-returns-in-Ok-clause-exact : goal.switches::listed-returns-in-Ok-clause-exact
 switches::listed-returns-in-Ok-clause-exact t c = λ place some untyped z.
     c.closed.ensures.exact c.args.tokens.now untyped
-    (header.listed place (stmt c.in-Ok.s) c.in-Ok.n c.in-Ok.rest.now (omega arith) z c.in-Ok.ensures.exact)
+    (header.listed place (stmt c.in-Ok.field-0.tree) c.in-Ok.field-0.height c.in-Ok.field-0.rest.now (omega arith) z c.in-Ok.ensures.exact)
 
 pub switches::listed-returns-in-Err-clause-exact : goal.switches::listed-returns-in-Err-clause-exact
 switches::listed-returns-in-Err-clause-exact t c = λ place some untyped z. listed_refused c.args.depth c.args.tokens.now place c.in-Err.error untyped (omega arith) z c.in-Err.ensures.exact
@@ -2117,9 +2103,9 @@ switches::behind_value-returns-then-same_kind-clause-exact t c = λ ts place unt
 pub switches::behind_value-returns-in-Ok-clause-exact : goal.switches::behind_value-returns-in-Ok-clause-exact
 switches::behind_value-returns-in-Ok-clause-exact t c = λ ts place untyped shorter z.
     c.closed.ensures.exact ts untyped
-    (header.begun (c.args.depth - 1) place (expr c.args.e) c.args.height c.args.tokens.now c.in-Some.found.0 c.in-Some.found.1.now (stmt c.in-Ok.s) c.in-Ok.n c.in-Ok.rest.now (omega arith) z (omega arith) c.in-Some.ensures.is
+    (header.begun (c.args.depth - 1) place (expr c.args.e) c.args.height c.args.tokens.now c.in-Some.found.0 c.in-Some.found.1.now (stmt c.in-Ok.field-0.tree) c.in-Ok.field-0.height c.in-Ok.field-0.rest.now (omega arith) z (omega arith) c.in-Some.ensures.is
     (goes_on_clause c.in-Some.found.0.kind c.in-Some.ensures.on (λ e. let bad : true ≡ false = sym (c.same_kind.ensures.1 e) ∙ c.if-same_kind.false in cc))
-    (bound_is (one (g.simple Header)) (continues_simple Header) ts (Yes (stmt c.in-Ok.s) c.in-Ok.n c.in-Ok.rest.now) (omega arith) (c.in-Ok.ensures.exact ts (lower_found (omega arith) z.found))))
+    (bound_is (one (g.simple Header)) (continues_simple Header) ts (Yes (stmt c.in-Ok.field-0.tree) c.in-Ok.field-0.height c.in-Ok.field-0.rest.now) (omega arith) (c.in-Ok.ensures.exact ts (lower_found (omega arith) z.found))))
 
 pub switches::behind_value-returns-in-Err-clause-exact : goal.switches::behind_value-returns-in-Err-clause-exact
 switches::behind_value-returns-in-Err-clause-exact t c = λ ts place untyped shorter z.
@@ -2139,7 +2125,7 @@ switches::closed-returns-in-Err-clause-exact t c = λ ts untyped z.
 
 pub switches::value-returns-in-Ok-clause-exact : goal.switches::value-returns-in-Ok-clause-exact
 switches::value-returns-in-Ok-clause-exact t c = λ ts untyped z.
-    value_answer c.args.depth ts (header_of c.args.header) c.args.height c.args.tokens.now (expr c.in-Ok.e) c.in-Ok.n c.max.result c.in-Ok.rest.now untyped z c.in-Ok.ensures.exact c.in-Ok.ensures.shorter (omega (arith, c.max.ensures))
+    value_answer c.args.depth ts (header_of c.args.header) c.args.height c.args.tokens.now (expr c.in-Ok.field-0.tree) c.in-Ok.field-0.height c.max.result c.in-Ok.field-0.rest.now untyped z c.in-Ok.ensures.exact c.in-Ok.ensures.shorter (omega (arith, c.max.ensures))
 
 pub switches::value-returns-then-stands_at-clause-exact : goal.switches::value-returns-then-stands_at-clause-exact
 switches::value-returns-then-stands_at-clause-exact t c = λ ts untyped z.
@@ -2162,30 +2148,30 @@ switches::switch_statement-returns-in-Err-before_cases-clause-refused t c = λ b
 pub switches::switch_statement-returns-in-Err-expect-clause-refused : goal.switches::switch_statement-returns-in-Err-expect-clause-refused
 switches::switch_statement-returns-in-Err-expect-clause-refused t c = λ brace loop.
     because (one labelled_part) continues_statement c.args.depth c.args.tokens.now c.in-Err-expect.error c.discard_head.result c.discard_head.ensures
-    (switch_unopened c.args.depth c.args.tokens.now c.in-Ok.found.0 c.in-Ok.found.1 c.in-Ok.found.2.now (switch_forms.head_of c.in-Ok-before_cases.read.0) c.in-Ok-before_cases.read.1 c.in-Ok-before_cases.read.2.now c.in-Ok.ensures.word c.in-Ok-before_cases.ensures.exact
+    (switch_unopened c.args.depth c.args.tokens.now c.in-Ok.found.0 c.in-Ok.found.1 c.in-Ok.found.2.now (switch_forms.head_of c.in-Ok-before_cases.read.tree) c.in-Ok-before_cases.read.height c.in-Ok-before_cases.read.rest.now c.in-Ok.ensures.word c.in-Ok-before_cases.ensures.exact
     c.in-Err-expect.error _ c.within.ensures.1 c.in-Err-expect.ensures.refused)
 
 pub switches::switch_statement-returns-in-Err-cases-clause-refused : goal.switches::switch_statement-returns-in-Err-cases-clause-refused
 switches::switch_statement-returns-in-Err-cases-clause-refused t c = λ brace loop.
     because (one labelled_part) continues_statement c.args.depth c.args.tokens.now c.in-Err-cases.error c.discard_head-in-Err-cases.result c.discard_head-in-Err-cases.ensures
-    (switch_cases_refused c.args.depth c.args.tokens.now c.in-Ok.found.0 c.in-Ok.found.1 c.in-Ok.found.2.now (switch_forms.head_of c.in-Ok-before_cases.read.0) c.in-Ok-before_cases.read.1 c.in-Ok-before_cases.read.2.now c.in-Ok.ensures.word c.in-Ok-before_cases.ensures.exact
+    (switch_cases_refused c.args.depth c.args.tokens.now c.in-Ok.found.0 c.in-Ok.found.1 c.in-Ok.found.2.now (switch_forms.head_of c.in-Ok-before_cases.read.tree) c.in-Ok-before_cases.read.height c.in-Ok-before_cases.read.rest.now c.in-Ok.ensures.word c.in-Ok-before_cases.ensures.exact
     c.in-Ok-expect._open c.in-Ok-expect.inner.now c.in-Err-cases.error (c.within.ensures.0 c.in-Ok-expect.ensures.within) c.in-Ok-expect.ensures.is c.in-Ok-expect.ensures.kind c.in-Err-cases.ensures.exact)
 
 pub switches::switch_statement-returns-in_ok-switched-in-Ok-expect-2-clause-read : goal.switches::switch_statement-returns-in_ok-switched-in-Ok-expect-2-clause-read
 switches::switch_statement-returns-in_ok-switched-in-Ok-expect-2-clause-read t c = λ brace loop. record {
-  value = (c.in-Ok.found.0, switched c.in-Ok.found.1 (switch_forms.head_of c.in-Ok-before_cases.read.0) (cases c.in-Ok-cases.read.0.items));
+  value = (c.in-Ok.found.0, switched c.in-Ok.found.1 (switch_forms.head_of c.in-Ok-before_cases.read.tree) (cases c.in-Ok-cases.read.tree.items));
   is = c.in_ok-switched-in-Ok-expect-2.ensures;
   found =
-      switch_answer c.args.depth c.args.tokens.now c.in-Ok.found.0 c.in-Ok.found.1 c.in-Ok.found.2.now (switch_forms.head_of c.in-Ok-before_cases.read.0) c.in-Ok-before_cases.read.1 c.in-Ok-before_cases.read.2.now c.in-Ok.ensures.word c.in-Ok-before_cases.ensures.exact
-      c.in-Ok-expect._open c.in-Ok-expect.inner.now (cases c.in-Ok-cases.read.0.items) c.in-Ok-cases.read.1 c.max-height.result c.in-Ok-cases.read.2.now c.in-Ok-expect-2._close c.in-Ok-expect-2.end.now (c.within.ensures.0 c.in-Ok-expect.ensures.within) c.in-Ok-expect.ensures.is c.in-Ok-expect.ensures.kind
+      switch_answer c.args.depth c.args.tokens.now c.in-Ok.found.0 c.in-Ok.found.1 c.in-Ok.found.2.now (switch_forms.head_of c.in-Ok-before_cases.read.tree) c.in-Ok-before_cases.read.height c.in-Ok-before_cases.read.rest.now c.in-Ok.ensures.word c.in-Ok-before_cases.ensures.exact
+      c.in-Ok-expect._open c.in-Ok-expect.inner.now (cases c.in-Ok-cases.read.tree.items) c.in-Ok-cases.read.height c.max-height.result c.in-Ok-cases.read.rest.now c.in-Ok-expect-2._close c.in-Ok-expect-2.end.now (c.within.ensures.0 c.in-Ok-expect.ensures.within) c.in-Ok-expect.ensures.is c.in-Ok-expect.ensures.kind
       c.in-Ok-cases.ensures.exact (omega (arith, c.max-height.ensures)) (c.within-2.ensures.0 c.in-Ok-expect-2.ensures.within) c.in-Ok-expect-2.ensures.is c.in-Ok-expect-2.ensures.kind;
 }
 
 pub switches::switch_statement-returns-in-Err-expect-2-clause-refused : goal.switches::switch_statement-returns-in-Err-expect-2-clause-refused
 switches::switch_statement-returns-in-Err-expect-2-clause-refused t c = λ brace loop.
     because (one labelled_part) continues_statement c.args.depth c.args.tokens.now c.in-Err-expect-2.error c.discard_head-in-Err-expect-2.result (c.discard_head-in-Err-expect-2.ensures ∙ c.discard_cases.ensures)
-    (switch_unclosed c.args.depth c.args.tokens.now c.in-Ok.found.0 c.in-Ok.found.1 c.in-Ok.found.2.now (switch_forms.head_of c.in-Ok-before_cases.read.0) c.in-Ok-before_cases.read.1 c.in-Ok-before_cases.read.2.now c.in-Ok.ensures.word c.in-Ok-before_cases.ensures.exact
-    c.in-Ok-expect._open c.in-Ok-expect.inner.now (cases c.in-Ok-cases.read.0.items) c.in-Ok-cases.read.1 c.max-height.result c.in-Ok-cases.read.2.now c.in-Err-expect-2.error _ (c.within.ensures.0 c.in-Ok-expect.ensures.within) c.in-Ok-expect.ensures.is c.in-Ok-expect.ensures.kind
+    (switch_unclosed c.args.depth c.args.tokens.now c.in-Ok.found.0 c.in-Ok.found.1 c.in-Ok.found.2.now (switch_forms.head_of c.in-Ok-before_cases.read.tree) c.in-Ok-before_cases.read.height c.in-Ok-before_cases.read.rest.now c.in-Ok.ensures.word c.in-Ok-before_cases.ensures.exact
+    c.in-Ok-expect._open c.in-Ok-expect.inner.now (cases c.in-Ok-cases.read.tree.items) c.in-Ok-cases.read.height c.max-height.result c.in-Ok-cases.read.rest.now c.in-Err-expect-2.error _ (c.within.ensures.0 c.in-Ok-expect.ensures.within) c.in-Ok-expect.ensures.is c.in-Ok-expect.ensures.kind
     c.in-Ok-cases.ensures.exact (omega (arith, c.max-height.ensures)) c.within-2.ensures.1 c.in-Err-expect-2.ensures.refused)
 
 pub run_bounds::run_over-returns : goal.run_bounds::run_over-returns
@@ -2204,20 +2190,20 @@ pub run_bounds::last_over-returns-in-None-closed_on : goal.run_bounds::last_over
 run_bounds::last_over-returns-in-None-closed_on t c = run_bound.ended c.in-Some._name c.in-Some.behind.now c.in-Some.ensures.is c.in-Some.ensures.kind c.in-None-closed_on.ensures.none
 
 pub loops::loop_statement-returns-in_ok-built-in-Ok-clause-read : goal.loops::loop_statement-returns-in_ok-built-in-Ok-clause-read
-loops::loop_statement-returns-in_ok-built-in-Ok-clause-read t c = λ k. record { value = loop_form.loop_of c.args.token.at c.in-Ok.read; is = c.in_ok-built-in-Ok.ensures; found = c.in-Ok.ensures.exact k }
+loops::loop_statement-returns-in_ok-built-in-Ok-clause-read t c = λ k. record { value = loop_form.loop_of c.args.token.at c.in-Ok.field-0.tree; is = c.in_ok-built-in-Ok.ensures; found = c.in-Ok.ensures.exact k }
 
 pub loops::loop_statement-returns-in-Err-clause-refused : goal.loops::loop_statement-returns-in-Err-clause-refused
 loops::loop_statement-returns-in-Err-clause-refused t c = λ k. c.in-Err.ensures.exact k
 
 pub loops::looped-returns-in-Ok-clause-exact : goal.loops::looped-returns-in-Ok-clause-exact
-loops::looped-returns-in-Ok-clause-exact t c = λ k. loop_exit.ever_answer c.args.depth c.args.token c.args.tokens.now c.begins_body.result (stmts c.in-Ok.block.items) c.in-Ok.height c.in-Ok.rest.now k c.begins_body.ensures c.if-begins_body.true c.in-Ok.ensures.exact
+loops::looped-returns-in-Ok-clause-exact t c = λ k. loop_exit.ever_answer c.args.depth c.args.token c.args.tokens.now c.begins_body.result (stmts c.in-Ok.field-0.tree.items) c.in-Ok.field-0.height c.in-Ok.field-0.rest.now k c.begins_body.ensures c.if-begins_body.true c.in-Ok.ensures.exact
 
 pub loops::looped-returns-in-Err-clause-exact : goal.loops::looped-returns-in-Err-clause-exact
 loops::looped-returns-in-Err-clause-exact t c = λ k. loop_exit.ever_refused c.args.depth c.args.token c.args.tokens.now c.begins_body.result c.in-Err.error k c.begins_body.ensures c.if-begins_body.true c.in-Err.ensures.exact
 
 pub loops::looped-returns-in-Ok-steps-clause-exact : goal.loops::looped-returns-in-Ok-steps-clause-exact
 loops::looped-returns-in-Ok-steps-clause-exact t c = λ k.
-    loop_exit.first_steps c.args.depth c.args.token c.args.tokens.now c.in-Some._semicolon c.in-Some.behind.now (loop_form.steps_of c.in-Ok-steps.read) c.in-Ok-steps.height c.in-Ok-steps.rest.now k c.in-Some.ensures.is c.in-Some.ensures.kind c.in-Ok-steps.ensures.exact
+    loop_exit.first_steps c.args.depth c.args.token c.args.tokens.now c.in-Some._semicolon c.in-Some.behind.now (loop_form.steps_of c.in-Ok-steps.field-0.tree) c.in-Ok-steps.field-0.height c.in-Ok-steps.field-0.rest.now k c.in-Some.ensures.is c.in-Some.ensures.kind c.in-Ok-steps.ensures.exact
 
 pub loops::looped-returns-in-Err-steps-clause-exact : goal.loops::looped-returns-in-Err-steps-clause-exact
 loops::looped-returns-in-Err-steps-clause-exact t c = λ k.
@@ -2273,21 +2259,21 @@ loops::over-returns-in-Err-clause-exact t c = λ ts k z. loop_exit.over_refused 
 pub loops::over-returns-then-n-from-clause-exact : goal.loops::over-returns-then-n-from-clause-exact
 loops::over-returns-then-n-from-clause-exact t c = λ ts k z.
     because (one labelled_part) continues_statement c.args.depth (c.args.token ∷ ts) c.body_over.result _ c.discard_span.ensures
-    (loop_exit.over_deep c.args.depth c.args.token ts c.args.names c.args.tokens.now (span_of c.in-Ok.read.0) c.in-Ok.read.1 c.in-Ok.read.2.now c.body_over.result k z c.in-Ok.ensures.exact (omega arith) c.body_over.ensures)
+    (loop_exit.over_deep c.args.depth c.args.token ts c.args.names c.args.tokens.now (span_of c.in-Ok.read.tree) c.in-Ok.read.height c.in-Ok.read.rest.now c.body_over.result k z c.in-Ok.ensures.exact (omega arith) c.body_over.ensures)
 
 pub loops::over-returns-in-Ok-body-clause-exact : goal.loops::over-returns-in-Ok-body-clause-exact
 loops::over-returns-in-Ok-body-clause-exact t c = λ ts k z.
-    loop_exit.over_body c.args.depth c.args.token ts c.args.names c.args.tokens.now (span_of c.in-Ok.read.0) c.in-Ok.read.1 c.in-Ok.read.2.now (stmts c.in-Ok-body.block.items) c.in-Ok-body.m _ c.in-Ok-body.after.now k z c.in-Ok.ensures.exact (omega arith) c.in-Ok-body.ensures.exact (omega (arith, c.max.ensures))
+    loop_exit.over_body c.args.depth c.args.token ts c.args.names c.args.tokens.now (span_of c.in-Ok.read.tree) c.in-Ok.read.height c.in-Ok.read.rest.now (stmts c.in-Ok-body.field-0.tree.items) c.in-Ok-body.field-0.height _ c.in-Ok-body.field-0.rest.now k z c.in-Ok.ensures.exact (omega arith) c.in-Ok-body.ensures.exact (omega (arith, c.max.ensures))
 
 pub loops::over-returns-in-Err-body-clause-exact : goal.loops::over-returns-in-Err-body-clause-exact
 loops::over-returns-in-Err-body-clause-exact t c = λ ts k z.
     because (one labelled_part) continues_statement c.args.depth (c.args.token ∷ ts) c.in-Err-body.error _ c.discard_span-in-Err-body.ensures
-    (loop_exit.over_body_refused c.args.depth c.args.token ts c.args.names c.args.tokens.now (span_of c.in-Ok.read.0) c.in-Ok.read.1 c.in-Ok.read.2.now c.in-Err-body.error k z c.in-Ok.ensures.exact (omega arith) c.in-Err-body.ensures.exact)
+    (loop_exit.over_body_refused c.args.depth c.args.token ts c.args.names c.args.tokens.now (span_of c.in-Ok.read.tree) c.in-Ok.read.height c.in-Ok.read.rest.now c.in-Err-body.error k z c.in-Ok.ensures.exact (omega arith) c.in-Err-body.ensures.exact)
 
 pub loops::clause-returns-in-Ok-clause-exact : goal.loops::clause-returns-in-Ok-clause-exact
 loops::clause-returns-in-Ok-clause-exact t c = λ place s many few.
     c.closed.ensures.exact c.args.tokens.now place s
-    (loop_form.from _ c.in-Ok.n c.in-Ok.rest.now many few (header.declared c.in-Declared.ensures.0 (decl c.in-Ok.d) c.in-Ok.n c.in-Ok.rest.now (loop_head.some_left c.args.depth s.unranged many) c.in-Declared.ensures.1 c.in-Ok.ensures.exact))
+    (loop_form.from _ c.in-Ok.field-0.height c.in-Ok.field-0.rest.now many few (header.declared c.in-Declared.ensures.0 (decl c.in-Ok.field-0.tree) c.in-Ok.field-0.height c.in-Ok.field-0.rest.now (loop_head.some_left c.args.depth s.unranged many) c.in-Declared.ensures.1 c.in-Ok.ensures.exact))
 
 pub loops::clause-returns-in-Err-clause-exact : goal.loops::clause-returns-in-Err-clause-exact
 loops::clause-returns-in-Err-clause-exact t c = λ place s many few. loop_head.declared_refused c.args.depth c.args.token c.args.tokens.now place c.in-Declared.ensures.0 c.in-Err.error s many c.in-Declared.ensures.1 c.in-Err.ensures.exact
@@ -2299,7 +2285,7 @@ pub loops::clause-returns-in-Ok-simple-clause-exact : goal.loops::clause-returns
 loops::clause-returns-in-Ok-simple-clause-exact t c = λ place s many few.
     let k = loop_head.some_left c.args.depth s.unranged many in
     c.closed-in-Ok-simple.ensures.exact c.args.tokens.now place s
-    (loop_form.from _ c.in-Ok-simple.n c.in-Ok-simple.rest.now many few (header.listed c.in-Listed.ensures.0 (stmt c.in-Ok-simple.s) c.in-Ok-simple.n c.in-Ok-simple.rest.now (omega (arith, k)) c.in-Listed.ensures.1 c.in-Ok-simple.ensures.exact))
+    (loop_form.from _ c.in-Ok-simple.field-0.height c.in-Ok-simple.field-0.rest.now many few (header.listed c.in-Listed.ensures.0 (stmt c.in-Ok-simple.field-0.tree) c.in-Ok-simple.field-0.height c.in-Ok-simple.field-0.rest.now (omega (arith, k)) c.in-Listed.ensures.1 c.in-Ok-simple.ensures.exact))
 
 pub loops::clause-returns-in-Err-simple-clause-exact : goal.loops::clause-returns-in-Err-simple-clause-exact
 loops::clause-returns-in-Err-simple-clause-exact t c = λ place s many few.
@@ -2316,7 +2302,7 @@ loops::clause-returns-in-Err-level-clause-exact t c = λ place s many few. loop_
 pub loops::list-returns-in-Ok-clause-exact : goal.loops::list-returns-in-Ok-clause-exact
 loops::list-returns-in-Ok-clause-exact t c = λ place last s names enough.
     c.closed.ensures.exact c.args.tokens.now place s
-    (loop_form.signs last (stmt c.in-Ok.s) c.in-Ok.n c.in-Ok.rest.now enough names c.in-Ok.ensures.exact)
+    (loop_form.signs last (stmt c.in-Ok.field-0.tree) c.in-Ok.field-0.height c.in-Ok.field-0.rest.now enough names c.in-Ok.ensures.exact)
 
 pub loops::list-returns-in-Err-clause-exact : goal.loops::list-returns-in-Err-clause-exact
 loops::list-returns-in-Err-clause-exact t c = λ place last s names enough. loop_head.signs_refused c.args.depth c.args.token c.args.tokens.now place last c.in-Err.error s names enough c.in-Err.ensures.exact
@@ -2338,10 +2324,10 @@ loops::behind_expression-returns-then-same_kind-clause-exact t c = λ ts place p
 pub loops::behind_expression-returns-in-Ok-clause-exact : goal.loops::behind_expression-returns-in-Ok-clause-exact
 loops::behind_expression-returns-in-Ok-clause-exact t c = λ ts place p s many few z.
     c.closed.ensures.exact ts place s
-    (loop_form.from _ c.in-Ok.n c.in-Ok.rest.now many few
-    (header.begun (c.args.depth - 1) p (expr c.args.e) c.args.height c.args.tokens.now c.in-Some.found.0 c.in-Some.found.1.now (stmt c.in-Ok.s) c.in-Ok.n c.in-Ok.rest.now (omega arith) z (omega arith) c.in-Some.ensures.is
+    (loop_form.from _ c.in-Ok.field-0.height c.in-Ok.field-0.rest.now many few
+    (header.begun (c.args.depth - 1) p (expr c.args.e) c.args.height c.args.tokens.now c.in-Some.found.0 c.in-Some.found.1.now (stmt c.in-Ok.field-0.tree) c.in-Ok.field-0.height c.in-Ok.field-0.rest.now (omega arith) z (omega arith) c.in-Some.ensures.is
     (goes_behind c.in-Some.found.0.kind c.in-Some.ensures.on (λ e. let bad : true ≡ false = sym (c.same_kind.ensures.1 e) ∙ c.if-same_kind.false in cc))
-    (loop_head.simple_deeper c.args.depth (c.args.depth - 1) ts (Yes (stmt c.in-Ok.s) c.in-Ok.n c.in-Ok.rest.now) (omega arith) (c.in-Ok.ensures.exact ts (lower_found (omega arith) z.found)))))
+    (loop_head.simple_deeper c.args.depth (c.args.depth - 1) ts (Yes (stmt c.in-Ok.field-0.tree) c.in-Ok.field-0.height c.in-Ok.field-0.rest.now) (omega arith) (c.in-Ok.ensures.exact ts (lower_found (omega arith) z.found)))))
 
 pub loops::behind_expression-returns-in-Err-clause-exact : goal.loops::behind_expression-returns-in-Err-clause-exact
 loops::behind_expression-returns-in-Err-clause-exact t c = λ ts place p s many few z.
@@ -2356,7 +2342,7 @@ loops::with_condition-returns-then-height-from-clause-exact t c = λ ts place p 
 
 pub loops::with_condition-returns-in-Ok-clause-exact : goal.loops::with_condition-returns-in-Ok-clause-exact
 loops::with_condition-returns-in-Ok-clause-exact t c = λ ts place p s many few z ends.
-    loop_head.while_answer c.args.depth c.args.token ts place p s (expr c.args.e) c.args.height c.args.tokens.now (stmts c.in-Ok.block.items) c.in-Ok.n _ c.in-Ok.rest.now many few z ends (omega arith) c.in-Ok.ensures.exact (omega (arith, c.max.ensures))
+    loop_head.while_answer c.args.depth c.args.token ts place p s (expr c.args.e) c.args.height c.args.tokens.now (stmts c.in-Ok.field-0.tree.items) c.in-Ok.field-0.height _ c.in-Ok.field-0.rest.now many few z ends (omega arith) c.in-Ok.ensures.exact (omega (arith, c.max.ensures))
 
 pub loops::with_condition-returns-in-Err-clause-exact : goal.loops::with_condition-returns-in-Err-clause-exact
 loops::with_condition-returns-in-Err-clause-exact t c = λ ts place p s many few z ends.
@@ -2374,7 +2360,7 @@ loops::closed-returns-in-Err-clause-exact t c = λ ts place s z.
 
 pub loops::stepped-returns-in-Ok-clause-exact : goal.loops::stepped-returns-in-Ok-clause-exact
 loops::stepped-returns-in-Ok-clause-exact t c = λ ts place s z.
-    loop_head.stepped_answer c.args.depth c.args.token ts place s (header_of c.args.header) c.args.height c.args.tokens.now (loop_form.steps_of c.in-Ok.read) c.in-Ok.n _ c.in-Ok.rest.now z c.in-Ok.ensures.exact (omega (arith, c.max.ensures))
+    loop_head.stepped_answer c.args.depth c.args.token ts place s (header_of c.args.header) c.args.height c.args.tokens.now (loop_form.steps_of c.in-Ok.field-0.tree) c.in-Ok.field-0.height _ c.in-Ok.field-0.rest.now z c.in-Ok.ensures.exact (omega (arith, c.max.ensures))
 
 pub loops::stepped-returns-in-Err-clause-exact : goal.loops::stepped-returns-in-Err-clause-exact
 loops::stepped-returns-in-Err-clause-exact t c = λ ts place s z.
@@ -2382,7 +2368,7 @@ loops::stepped-returns-in-Err-clause-exact t c = λ ts place s z.
     (loop_head.stepped_refused c.args.depth c.args.token ts place s (header_of c.args.header) c.args.height c.args.tokens.now c.in-Err.error z c.in-Err.ensures.exact)
 
 pub loops::steps-returns-in-Ok-clause-exact : goal.loops::steps-returns-in-Ok-clause-exact
-loops::steps-returns-in-Ok-clause-exact t c = c.behind_condition.ensures.exact c.args.tokens.now (loop_form.some (expr c.in-Ok.e) c.in-Ok.height c.in-Ok.rest.now c.in-Ok.ensures.exact c.in-Ok.ensures.shorter)
+loops::steps-returns-in-Ok-clause-exact t c = c.behind_condition.ensures.exact c.args.tokens.now (loop_form.some (expr c.in-Ok.field-0.tree) c.in-Ok.field-0.height c.in-Ok.field-0.rest.now c.in-Ok.ensures.exact c.in-Ok.ensures.shorter)
 
 pub loops::steps-returns-then-stands_at-clause-exact : goal.loops::steps-returns-then-stands_at-clause-exact
 loops::steps-returns-then-stands_at-clause-exact t c =
@@ -2394,7 +2380,7 @@ loops::steps-returns-else-stands_at-clause-exact t c = loop_exit.condition_refus
 
 pub loops::behind_condition-returns-in-Ok-ending-clause-exact : goal.loops::behind_condition-returns-in-Ok-ending-clause-exact
 loops::behind_condition-returns-in-Ok-ending-clause-exact t c = λ ts z.
-    loop_exit.condition_end c.args.depth ts (maybe_expr c.args.condition) c.args.height c.args.tokens.now c.in-Ok.semicolon c.in-Ok.behind.now (loop_form.end_of c.in-Ok-ending.end) c.in-Ok-ending.n _ c.in-Ok-ending.rest.now z (c.within.ensures.0 c.in-Ok.ensures.within) c.in-Ok.ensures.is c.in-Ok.ensures.kind c.in-Ok-ending.ensures.exact
+    loop_exit.condition_end c.args.depth ts (maybe_expr c.args.condition) c.args.height c.args.tokens.now c.in-Ok.semicolon c.in-Ok.behind.now (loop_form.end_of c.in-Ok-ending.field-0.tree) c.in-Ok-ending.field-0.height _ c.in-Ok-ending.field-0.rest.now z (c.within.ensures.0 c.in-Ok.ensures.within) c.in-Ok.ensures.is c.in-Ok.ensures.kind c.in-Ok-ending.ensures.exact
     (omega (arith, c.max.ensures))
 
 pub loops::behind_condition-returns-in-Err-ending-clause-exact : goal.loops::behind_condition-returns-in-Err-ending-clause-exact
@@ -2411,7 +2397,7 @@ pub loops::ending-returns-in-Ok-clause-exact : goal.loops::ending-returns-in-Ok-
 loops::ending-returns-in-Ok-clause-exact t c = c.behind_step.ensures.exact c.args.tokens.now c.in-Ok.ensures.exact c.in-Ok.ensures.shorter
 
 pub loops::ending-returns-in-Ok-body-clause-exact : goal.loops::ending-returns-in-Ok-body-clause-exact
-loops::ending-returns-in-Ok-body-clause-exact t c = loop_exit.end_alone c.args.depth c.args.tokens.now c.in-Err.error (stmts c.in-Ok-body.block.items) c.in-Ok-body.n c.in-Ok-body.after.now c.in-Err.ensures.exact (c.stands_at.ensures.0 c.if-stands_at.true) c.in-Ok-body.ensures.exact
+loops::ending-returns-in-Ok-body-clause-exact t c = loop_exit.end_alone c.args.depth c.args.tokens.now c.in-Err.error (stmts c.in-Ok-body.field-0.tree.items) c.in-Ok-body.field-0.height c.in-Ok-body.field-0.rest.now c.in-Err.ensures.exact (c.stands_at.ensures.0 c.if-stands_at.true) c.in-Ok-body.ensures.exact
 
 pub loops::ending-returns-in-Err-body-clause-exact : goal.loops::ending-returns-in-Err-body-clause-exact
 loops::ending-returns-in-Err-body-clause-exact t c = loop_exit.end_alone_refused c.args.depth c.args.tokens.now c.in-Err.error c.in-Err-body.stop c.in-Err.ensures.exact (c.stands_at.ensures.0 c.if-stands_at.true) c.in-Err-body.ensures.exact
@@ -2426,7 +2412,7 @@ loops::behind_step-returns-then-height-from-clause-exact t c = λ ts found short
 
 pub loops::behind_step-returns-in-Ok-clause-exact : goal.loops::behind_step-returns-in-Ok-clause-exact
 loops::behind_step-returns-in-Ok-clause-exact t c = λ ts found shorter.
-    loop_exit.step_body c.args.depth ts (stmt c.args.s) c.args.height c.args.tokens.now (stmts c.in-Ok.block.items) c.in-Ok.n _ c.in-Ok.after.now found shorter (omega arith) c.in-Ok.ensures.exact (omega (arith, c.max.ensures))
+    loop_exit.step_body c.args.depth ts (stmt c.args.s) c.args.height c.args.tokens.now (stmts c.in-Ok.field-0.tree.items) c.in-Ok.field-0.height _ c.in-Ok.field-0.rest.now found shorter (omega arith) c.in-Ok.ensures.exact (omega (arith, c.max.ensures))
 
 pub loops::behind_step-returns-in-Err-clause-exact : goal.loops::behind_step-returns-in-Err-clause-exact
 loops::behind_step-returns-in-Err-clause-exact t c = λ ts found shorter.

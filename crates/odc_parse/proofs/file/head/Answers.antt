@@ -1,28 +1,35 @@
+use Rattle.std.proofs.lemmas.Result.{err_from_is_err_and}
 use Rattle.odc_parse.proofs.FileLemmas.{package_refused, package_name_refused, package_end_refused}
 use Rattle.odc_parse.proofs.file.head.Goals as goal
 
-pub returns-in-Err-clause-refused : goal.returns-in-Err-clause-refused
-returns-in-Err-clause-refused c = package_refused c.args.tokens.now c.in-Err.stop c.in-Err.ensures.refused
+pub returns-in_err-_package-clause-refused : goal.returns-in_err-_package-clause-refused
+returns-in_err-_package-clause-refused c =
+    let p = err_from_is_err_and c.from_residual.result c.from_residual.ensures.1 in rw (p.1, p.2) (package_refused c.args.tokens.now c.in_err-_package.field-0.0 c.in_err-_package.ensures.refused)
 
-pub returns-in-Err-expect-clause-refused : goal.returns-in-Err-expect-clause-refused
-returns-in-Err-expect-clause-refused c = package_name_refused c.args.tokens.now c.in-Ok.read.1.now c.in-Ok.read.0 c.in-Err-expect.stop c.in-Ok.ensures.is c.in-Ok.ensures.kind c.in-Err-expect.ensures.refused
+pub returns-in_err-name-clause-refused : goal.returns-in_err-name-clause-refused
+returns-in_err-name-clause-refused c =
+    let p = err_from_is_err_and c.from_residual-in_err-name.result c.from_residual-in_err-name.ensures.1 in
+    rw (p.1, p.2)
+    (package_name_refused c.args.tokens.now c.in_ok-_package.behind.now c.in_ok-_package._package c.in_err-name.field-0.0 c.in_ok-_package.ensures.is c.in_ok-_package.ensures.kind c.in_err-name.ensures.refused)
 
-pub returns-in-Err-expect-2-clause-refused : goal.returns-in-Err-expect-2-clause-refused
-returns-in-Err-expect-2-clause-refused c =
-    package_end_refused c.args.tokens.now c.in-Ok-expect.read.1.now c.in-Ok.read.0 c.in-Ok-expect.read.0 c.in-Err-expect-2.stop
-    (record { behind = c.in-Ok.read.1.now; package_is = c.in-Ok.ensures.is; package_kind = c.in-Ok.ensures.kind; name_is = c.in-Ok-expect.ensures.is; name_kind = c.in-Ok-expect.ensures.kind })
-    c.in-Err-expect-2.ensures.refused
+pub returns-in_err-_semicolon-clause-refused : goal.returns-in_err-_semicolon-clause-refused
+returns-in_err-_semicolon-clause-refused c =
+    let p = err_from_is_err_and c.from_residual-in_err-_semicolon.result c.from_residual-in_err-_semicolon.ensures.1 in
+    rw (p.1, p.2)
+    (package_end_refused c.args.tokens.now c.in_ok-name.after.now c.in_ok-_package._package c.in_ok-name.name c.in_err-_semicolon.field-0.0
+    (record { behind = c.in_ok-_package.behind.now; package_is = c.in_ok-_package.ensures.is; package_kind = c.in_ok-_package.ensures.kind; name_is = c.in_ok-name.ensures.is; name_kind = c.in_ok-name.ensures.kind })
+    c.in_err-_semicolon.ensures.refused)
 
-pub returns-in-Ok-expect-2-clause-read : goal.returns-in-Ok-expect-2-clause-read
-returns-in-Ok-expect-2-clause-read c = record {
-  word = c.in-Ok.read.0;
-  behind = c.in-Ok.read.1.now;
-  after = c.in-Ok-expect.read.1.now;
-  end = c.in-Ok-expect-2._semicolon;
-  word_is = c.in-Ok.ensures.is;
-  word_kind = c.in-Ok.ensures.kind;
-  name_is = c.in-Ok-expect.ensures.is;
-  name_kind = c.in-Ok-expect.ensures.kind;
-  end_is = c.in-Ok-expect-2.ensures.is;
-  end_kind = c.in-Ok-expect-2.ensures.kind;
+pub returns-clause-read : goal.returns-clause-read
+returns-clause-read c = record {
+  word = c.in_ok-_package._package;
+  behind = c.in_ok-_package.behind.now;
+  after = c.in_ok-name.after.now;
+  end = c.in_ok-_semicolon._semicolon;
+  word_is = c.in_ok-_package.ensures.is;
+  word_kind = c.in_ok-_package.ensures.kind;
+  name_is = c.in_ok-name.ensures.is;
+  name_kind = c.in_ok-name.ensures.kind;
+  end_is = c.in_ok-_semicolon.ensures.is;
+  end_kind = c.in_ok-_semicolon.ensures.kind;
 }

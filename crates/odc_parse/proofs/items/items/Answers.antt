@@ -13,7 +13,7 @@ list-init c = record { led = items_start c.args.tokens.now c.new-list.result.ite
 pub list-preserved : goal.list-preserved
 list-preserved c = record {
   led =
-      items_next c.args.tokens.now c.list.list.items c.in_ok-list.list.items c.in-Ok.read.0 c.list.height c.in-Ok.read.1 c.max-height.result c.list.rest.now c.in-Ok.read.2.now c.in-Ok-expect.after.now c.in-Ok-expect._semicolon
+      items_next c.args.tokens.now c.list.list.items c.in_ok-list.list.items c.in-Ok.read.tree c.list.height c.in-Ok.read.height c.max-height.result c.list.rest.now c.in-Ok.read.rest.now c.in-Ok-expect.after.now c.in-Ok-expect._semicolon
       c.list.invariant.led c.list.invariant.low c.in-Ok.ensures.shorter (c.in-Ok.ensures.exact (c.begins_item.ensures.0 c.list-test.true)) c.in_ok-list.ensures c.in-Ok-expect.ensures.is c.in-Ok-expect.ensures.kind
       (c.within.ensures.0 c.in-Ok-expect.ensures.within) c.max-height.ensures;
   low = let read = c.within.ensures.0 c.in-Ok-expect.ensures.within in let before = c.list.invariant.low in omega (arith, c.max-height.ensures, read, before);
@@ -26,7 +26,7 @@ returns-in-Err-clause-exact c =
 
 pub returns-in-Err-expect-clause-exact : goal.returns-in-Err-expect-clause-exact
 returns-in-Err-expect-clause-exact c =
-    items_unclosed c.args.tokens.now c.list.list.items (decl c.in-Ok.read.0) c.list.height c.in-Ok.read.1 c.list.rest.now c.in-Ok.read.2.now c.in-Err-expect.stop c.discard_decls-in-Err-expect.result _
+    items_unclosed c.args.tokens.now c.list.list.items (decl c.in-Ok.read.tree) c.list.height c.in-Ok.read.height c.list.rest.now c.in-Ok.read.rest.now c.in-Err-expect.stop c.discard_decls-in-Err-expect.result _
     c.list.invariant.led c.list.invariant.low c.in-Ok.ensures.shorter (c.in-Ok.ensures.exact (c.begins_item.ensures.0 c.list-test.true)) (λ over. over_by _ _ _ c.within.ensures.1 over) c.in-Err-expect.ensures.refused
     (c.discard_decls-in-Err-expect.ensures ∙ c.discard_decl.ensures)
 

@@ -1,4 +1,4 @@
-use Rattle.std.proofs.Common.{◌≡◌, ◌∙◌, sym, subst, true, false, List}
+use Rattle.std.proofs.Common.{subst, true, false, List}
 use Rattle.odc_syntax.specs.declared.token.Token.{Token}
 use Rattle.odc_syntax.specs.View.{decls}
 use Rattle.odc_lookahead.specs.Exact.{Exact, Found, one}
@@ -15,12 +15,12 @@ returns-in-Err-clause-no_file c = λ clean.
 
 pub returns-then-is_empty-clause-file : goal.returns-then-is_empty-clause-file
 returns-then-is_empty-clause-file c = λ clean.
-    file_is c.args.t.now.list.items c.in-Ok.read.2.now c.in-Ok.read.0.0 (decls c.in-Ok.read.0.1.items) c.in-Ok.read.1
-    (subst (λ (l : List Token). Found (one file_of) starts_item 200 l (c.in-Ok.read.0.0, decls c.in-Ok.read.0.1.items) c.in-Ok.read.1 c.in-Ok.read.2.now) c.as_slice.ensures.value c.in-Ok.ensures.exact)
+    file_is c.args.t.now.list.items c.in-Ok.read.rest.now c.in-Ok.read.tree.package (decls c.in-Ok.read.tree.decls.items) c.in-Ok.read.height
+    (subst (λ (l : List Token). Found (one file_of) starts_item 200 l (c.in-Ok.read.tree.package, decls c.in-Ok.read.tree.decls.items) c.in-Ok.read.height c.in-Ok.read.rest.now) c.as_slice.ensures.value c.in-Ok.ensures.exact)
     (none_left _ _ c.is_empty.ensures c.if-is_empty.true) c.in-Ok.ensures.low clean
 
 pub returns-else-is_empty-clause-no_file : goal.returns-else-is_empty-clause-no_file
 returns-else-is_empty-clause-no_file c = λ clean.
-    rest_fault c.args.t.now.list.items c.in-Ok.read.2.now (c.in-Ok.read.0.0, decls c.in-Ok.read.0.1.items) c.in-Ok.read.1 c.args.t.now.end c.unread-else-is_empty.result c.discard_decls.result
-    (subst (λ (l : List Token). Found (one file_of) starts_item 200 l (c.in-Ok.read.0.0, decls c.in-Ok.read.0.1.items) c.in-Ok.read.1 c.in-Ok.read.2.now) c.as_slice.ensures.value c.in-Ok.ensures.exact)
+    rest_fault c.args.t.now.list.items c.in-Ok.read.rest.now (c.in-Ok.read.tree.package, decls c.in-Ok.read.tree.decls.items) c.in-Ok.read.height c.args.t.now.end c.unread-else-is_empty.result c.discard_decls.result
+    (subst (λ (l : List Token). Found (one file_of) starts_item 200 l (c.in-Ok.read.tree.package, decls c.in-Ok.read.tree.decls.items) c.in-Ok.read.height c.in-Ok.read.rest.now) c.as_slice.ensures.value c.in-Ok.ensures.exact)
     (some_left _ _ c.is_empty.ensures c.if-is_empty.false) clean c.discard_decls.ensures c.unread-else-is_empty.ensures
