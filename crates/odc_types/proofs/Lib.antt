@@ -6,3 +6,4 @@ pub mod KeyLemmas
 pub mod KeyTests
 pub mod InternedLaws
 pub mod MeasuredLaws
+pub mod HoldsLaws

@@ -7,3 +7,4 @@ pub mod Layout
 pub mod Clipped
 pub mod Interned
 pub mod Measured
+pub mod Holds

@@ -97,7 +97,11 @@ fn types_of(alloc: Global, params: &[Param]) -> Result<Vec<TyId>, AllocError>
 }
 
 /// The types of parameters and then of results.
-fn signature(alloc: Global, params: &[Param], results: &[TyId]) -> Result<Vec<TyId>, AllocError>
+pub(crate) fn signature(
+    alloc: Global,
+    params: &[Param],
+    results: &[TyId],
+) -> Result<Vec<TyId>, AllocError>
     ensures { IfOk result (λ v. v.items ≡ map (λ p. p.ty) params.now ++ results.now) }
 {
     let mut types = types_of(alloc, params)?;

@@ -8,6 +8,7 @@
 #![tactic(auto)]
 
 mod extent;
+mod holds;
 mod index;
 mod key;
 mod measure;

@@ -1,4 +1,4 @@
-ghost use Rattle.std.specs.Prelude.{◌≡◌, ℕ, [], ◌∷◌, ◌++◌, ◌+◌, ◌<◌, ◌≤◌, ◌^◌, ◌==◌, ◌↔◌, ◌⊎◌, length, slice_get, slice_set, Some, IfSome, IfNone, IfOk, OnOk, OnErr, IsTrue};
+ghost use Rattle.std.specs.Prelude.{◌≡◌, ℕ, [], ◌∷◌, ◌++◌, ◌+◌, ◌<◌, ◌≤◌, ◌^◌, ◌==◌, ◌↔◌, ◌⊎◌, length, slice_get, slice_set, Some, IfSome, IfNone, IfOk, OnOk, OnErr, IsTrue, All};
 ghost use Rattle.odc_types.specs.Nodes.{node, nodes};
 ghost use Rattle.odc_types.specs.Parts.{HasPartsBelow, IsUndefined};
 ghost use Rattle.odc_types.specs.Identity.{identity_of, identity_of_node};
@@ -6,8 +6,10 @@ ghost use Rattle.odc_types.specs.Keys.{IsKeyOf};
 ghost use Rattle.odc_types.specs.Interned.{IsFresh, IsAt};
 ghost use Rattle.odc_types.specs.Layout.{layout, size as bytes_of, HasSize, size_of, align_of, field_count, offset_of, layout_of, layout_of_node};
 ghost use Rattle.odc_types.specs.Clipped.{IsMeasured};
+ghost use Rattle.odc_types.specs.Holds.{IsMarked, IsHeldBy};
 
 use crate::extent::Extent;
+use crate::holds::held;
 use crate::index::{found, put};
 use crate::key::{Key, key_of};
 use crate::measure::{field_offset, kept, measured};
@@ -222,6 +224,15 @@ impl TypeTable {
     {
         let _each_once = self.len();
         a.index == b.index
+    }
+
+    /// The types that one of `roots` is or holds, at any depth and also behind pointers: a mark for each type, by number.
+    pub fn held(&self, alloc: Global, roots: &[TyId]) -> Result<Vec<bool>, AllocError>
+        requires { All (λ t. t.index < length self.now) roots.now }
+        ensures len { IfOk result (λ marks. length marks.items ≡ length self.now) }
+        ensures held { IfOk result (λ marks. (u : TyId) → IsMarked marks.items u ↔ IsHeldBy self.now roots.now u) }
+    {
+        held(alloc, self.types.as_slice(), roots)
     }
 
     /// The extent of a type that has a size.

@@ -245,6 +245,18 @@ fn a_node_names_itself(rt: HostRuntime) -> Result<(), AllocError> {
     Ok(())
 }
 
+#[test]
+fn what_is_behind_a_pointer_is_held(rt: HostRuntime) -> Result<(), AllocError> {
+    let alloc = rt.alloc();
+    let mut table = TypeTable::new(alloc)?;
+    linked(&mut table, alloc)?;
+    let pointer = table.held(alloc, &[TyId { index: 2 }])?;
+    assert!(rt; !pointer[0] && pointer[1] && pointer[2]);
+    let both = table.held(alloc, &[TyId { index: 0 }, TyId { index: 1 }])?;
+    assert!(rt; both[0] && both[1] && !both[2]);
+    Ok(())
+}
+
 /// The type at a level of `E0 :: u8` and `Ek+1 :: struct {a, b: Ek}`.
 fn doubled(table: &mut TypeTable, alloc: Global, levels: u32) -> Result<TyId, AllocError> {
     let mut ty = table.add(Ty::Int { width: Width::U8 })?;
