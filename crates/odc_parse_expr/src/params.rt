@@ -355,6 +355,7 @@ fn typed<'a>(
 }
 
 /// Names behind `$`, which stand for types, or for integers.
+#[inline(never)]
 #[cycle(parser)]
 fn parametric<'a>(
     alloc: Global,
