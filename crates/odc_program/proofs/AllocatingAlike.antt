@@ -190,12 +190,8 @@ module _ (S : s.State → s.State → Type 0) (Stops : s.Leave → s.State → a
       thens (rooms_made x y k env at (l.layout_of env (i.target_of env (i.arg_type ts 0))) own (length (drop 1 vs))) (λ w. appendeds env at t (l.layout_of env (i.target_of env (i.arg_type ts 0))) own (drop 1 vs) w))
 
   -- ---- reserve and resize
-  wants : (at : Place) (z : ℤ) → Same (g.wanted at z) (g.wanted at z)
-  wants at (pos n) = pures n
-  wants at (negsuc n) = fails check.Length at
-
   pub reserves : (x y : s.Calls) → a.SameCalls S Stops x y → (env : s.Env) (at : Place) (ts : List ℕ) (vs : List Value) → Same (g.run_reserve x env at ts vs) (g.run_reserve y env at ts vs)
-  reserves x y k env at ts vs = thens (ints at (i.arg vs 1)) (λ z. thens (wants at z) (λ n. thens (owns at (l.layout_of env (i.target_of env (i.arg_type ts 0))) (i.arg vs 0)) (λ own.
+  reserves x y k env at ts vs = thens (ints at (i.arg vs 1)) (λ z. thens (counts at (l.layout_of env (i.target_of env (i.arg_type ts 0))) z) (λ n. thens (owns at (l.layout_of env (i.target_of env (i.arg_type ts 0))) (i.arg vs 0)) (λ own.
       thens (ifs (nat_le n own.room) (pures _) (grows x y k env at (l.layout_of env (i.target_of env (i.arg_type ts 0))) own own.count n)) (λ w. pures _))))
 
   cells_zeroed : (at : Place) (x : l.Layout) (d n : ℕ) (cs : List l.Cell) (v : Value) → Same (g.zero_cells at x d n cs v) (g.zero_cells at x d n cs v)
@@ -206,7 +202,7 @@ module _ (S : s.State → s.State → Type 0) (Stops : s.Leave → s.State → a
   zeroeds at x own n v = ifs (nat_lt own.count (min n own.room)) (cells_zeroed at x own.count (min n own.room - own.count) x.cells v) (pures tt)
 
   pub resizes : (x y : s.Calls) → a.SameCalls S Stops x y → (env : s.Env) (at : Place) (ts : List ℕ) (vs : List Value) → Same (g.run_resize x env at ts vs) (g.run_resize y env at ts vs)
-  resizes x y k env at ts vs = thens (ints at (i.arg vs 1)) (λ z. thens (wants at z) (λ n. thens (owns at (l.layout_of env (i.target_of env (i.arg_type ts 0))) (i.arg vs 0)) (λ own.
+  resizes x y k env at ts vs = thens (ints at (i.arg vs 1)) (λ z. thens (counts at (l.layout_of env (i.target_of env (i.arg_type ts 0))) z) (λ n. thens (owns at (l.layout_of env (i.target_of env (i.arg_type ts 0))) (i.arg vs 0)) (λ own.
       thens (ifs (nat_le n own.room) (lengthens at (l.layout_of env (i.target_of env (i.arg_type ts 0))) own n) (grows x y k env at (l.layout_of env (i.target_of env (i.arg_type ts 0))) own n n)) (λ w.
       ifs (w.error == 0) (thens (zeroeds at (l.layout_of env (i.target_of env (i.arg_type ts 0))) own n w.starts) (λ _. pures (s.is (int_bytes 1 (pos 0))))) (pures _)))))
 

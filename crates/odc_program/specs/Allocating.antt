@@ -82,8 +82,8 @@ abbrev pub allocator_in : Env → List Value → Value
 allocator_in env [] = context_allocator env
 allocator_in env (a ∷ rest) = a
 
--- not more elements or bytes than any container may have
 -- ---- lengths
+-- not more elements or bytes than any container may have
 abbrev pub fits_limit : Layout → ℕ → Bool
 fits_limit l n = nat_le n length_limit && nat_le (storage_size n l) length_limit
 
@@ -270,15 +270,11 @@ abbrev pub run_append : Calls → Env → Place → ℕ → List ℕ → List Va
 run_append calls env at t ts vs = append_to calls env at t (layout_of env (target_of env (arg_type ts 0))) (arg vs 0) (drop 1 vs)
 
 -- ---- reserve and resize
-abbrev pub wanted : Place → ℤ → Do ℕ
-wanted at (pos n) = pure n
-wanted at (negsuc n) = fail check.Length at
-
 abbrev pub reserve_room : Calls → Env → Place → Layout → Own → ℕ → Do Grown
 reserve_room calls env at l own n = if nat_le n own.room then pure (record { starts = own.starts; error = 0 }) else grow calls env at l own own.count n
 
 abbrev pub reserve_in : Calls → Env → Place → Layout → Value → Value → Do Base
-reserve_in calls env at l w v = int_arg at v >>= (λ z. wanted at z >>= (λ n. own_of at l w >>= (λ own. reserve_room calls env at l own n >>= (λ g. error_alone g.error))))
+reserve_in calls env at l w v = int_arg at v >>= (λ z. checked_count at l z >>= (λ n. own_of at l w >>= (λ own. reserve_room calls env at l own n >>= (λ g. error_alone g.error))))
 
 abbrev pub run_reserve : Calls → Env → Place → List ℕ → List Value → Do Base
 run_reserve calls env at ts vs = reserve_in calls env at (layout_of env (target_of env (arg_type ts 0))) (arg vs 0) (arg vs 1)
@@ -299,7 +295,7 @@ abbrev pub resize_room : Calls → Env → Place → Layout → Own → ℕ → 
 resize_room calls env at l own n = if nat_le n own.room then lengthened at l own n else grow calls env at l own n n
 
 abbrev pub resize_in : Calls → Env → Place → Layout → Value → Value → Do Base
-resize_in calls env at l w v = int_arg at v >>= (λ z. wanted at z >>= (λ n. own_of at l w >>= (λ own. resize_room calls env at l own n >>= resized at l own n)))
+resize_in calls env at l w v = int_arg at v >>= (λ z. checked_count at l z >>= (λ n. own_of at l w >>= (λ own. resize_room calls env at l own n >>= resized at l own n)))
 
 abbrev pub run_resize : Calls → Env → Place → List ℕ → List Value → Do Base
 run_resize calls env at ts vs = resize_in calls env at (layout_of env (target_of env (arg_type ts 0))) (arg vs 0) (arg vs 1)

@@ -63,6 +63,12 @@ variant = program (main (at_place Either 128 ∷ at_place Int 160 ∷ []) []
     (let_ 0 (node Either 1 (t.inject 1 (num 5))) ∷
     st (t.type_switch 3 (loc Either 0) (t.type_case (1 ∷ []) (Some 1) (block_of (show (loc Int 1 ∷ []) ∷ [])) t.no_types)) ∷ []) ∷ [])
 
+-- a default that stands before the other cases is taken when none of them is: 6, 5, 1 and 5
+abbrev pub default_first : Program
+default_first = program (main (at_place Either 128 ∷ []) []
+    (let_ 0 (node Either 1 (t.inject 1 (num 5))) ∷
+    st (t.type_switch 3 (loc Either 0) (t.default_type None (block_of (show (num 9 ∷ []) ∷ [])) (t.type_case (2 ∷ []) None (block_of (show (num 2 ∷ []) ∷ [])) t.no_types))) ∷ []) ∷ [])
+
 -- `v, ok := u.(int)` and `s, ok := u.(string)`: 6, 8, 13, 9 and 14
 abbrev pub tested : Program
 tested = program (main (at_place Either 128 ∷ at_place Int 160 ∷ at_place Bool_ 176 ∷ at_place Text 192 ∷ at_place Bool_ 216 ∷ []) []

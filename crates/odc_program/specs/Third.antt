@@ -96,6 +96,18 @@ cannot_grow = with_all (three ∷ []) [] (zeros 48) (
     (let_ 0 (array_over 3 3 (kept 24)) ∷ do_ (calls IntError b.Append 51 (to_a ∷ num 5 ∷ [])) ∷ show (len ∷ cap ∷ []) ∷ []) ∷
     refuser ∷ [])
 
+-- one within the capacity asks no allocator: 19, 12 and 16
+abbrev pub appends_within : Program
+appends_within = with_all (three ∷ []) [] (zeros 48) (main (at_place IntArray 128 ∷ []) []
+    (let_ 0 (array_over 1 3 t.no_parts) ∷ do_ (calls IntError b.Append 51 (to_a ∷ num 5 ∷ [])) ∷ show (len ∷ element 1 ∷ []) ∷ []) ∷ [])
+
+-- `reserve(&a, 4)` of a full array of three: 21, 43 and 17
+abbrev pub reserves : Program
+reserves = with_all (three ∷ buffer ∷ []) [] (zeros 48) (
+    main (at_place IntArray 128 ∷ []) (1 ∷ [])
+    (let_ 0 (array_over 3 3 (kept 24)) ∷ do_ (calls Error b.Reserve 51 (to_a ∷ num 4 ∷ [])) ∷ show (len ∷ cap ∷ []) ∷ []) ∷
+    allocator_of 1 ∷ [])
+
 -- `delete(a)`: 21, 8, 1 and 28
 abbrev pub deletes : Program
 deletes = with_all (three ∷ buffer ∷ []) [] (zeros 48) (
@@ -146,6 +158,29 @@ news = with_all (buffer ∷ []) [] (first_of 1) (
     main (at_place IntPointer 128 ∷ []) []
     (let_ 0 (calls IntPointer b.New 20 []) ∷ set (node Int 21 (t.deref (loc IntPointer 0))) (num 5) ∷ show (node Int 21 (t.deref (loc IntPointer 0)) ∷ []) ∷ []) ∷
     allocator_of 0 ∷ [])
+
+-- `p := new(int); free(p)`: 31, and 5 and 28
+abbrev pub frees : Program
+frees = with_all (buffer ∷ []) [] (first_of 1) (
+    main (at_place IntPointer 128 ∷ []) [] (let_ 0 (calls IntPointer b.New 20 []) ∷ do_ (calls Error b.Free 21 (loc IntPointer 0 ∷ [])) ∷ []) ∷
+    allocator_of 0 ∷ [])
+
+-- `s := make([]int, 2); println(len(s)); delete(s)`: 33, 8, and 6 and 28
+abbrev pub makes : Program
+makes = with_all (buffer ∷ []) [] (first_of 1) (
+    main (at_place IntSlice 128 ∷ []) []
+    (let_ 0 (calls IntSlice b.Make 20 (num 2 ∷ [])) ∷ show (calls Int b.Len 62 (loc IntSlice 0 ∷ []) ∷ []) ∷ do_ (calls Error b.Delete 21 (loc IntSlice 0 ∷ [])) ∷ []) ∷
+    allocator_of 0 ∷ [])
+
+-- `free_all()`: 2 and 28
+abbrev pub frees_all : Program
+frees_all = with_all (buffer ∷ []) [] (first_of 1) (main [] [] (do_ (calls Error b.FreeAll 20 []) ∷ []) ∷ allocator_of 0 ∷ [])
+
+-- `s := a[:]; for x in s { println(x) }`: 5, 4 and three times 10
+abbrev pub over_slice : Program
+over_slice = with_all (three ∷ []) [] (zeros 48) (main (at_place IntSlice 128 ∷ at_place Int 152 ∷ []) []
+    (let_ 0 (node IntSlice 39 (t.cut (glob Three 0) t.absent t.absent)) ∷
+    st (t.range 1 (t.through (loc IntSlice 0) false) (Some 1) None (block_of (show (loc Int 1 ∷ []) ∷ []))) ∷ []) ∷ [])
 
 -- a negative length stops: 3
 abbrev pub negative : Program

@@ -1,6 +1,6 @@
 //! Closed runs of small programs: what each prints, how it ends, what it costs and how many turns it takes.
 
-ghost use Rattle.std.specs.Prelude.{◌≡◌, ℕ, pos, List, [], ◌∷◌, map, replicate, true, false, codes};
+ghost use Rattle.std.specs.Prelude.{◌≡◌, ℕ, pos, List, [], ◌∷◌, ◌++◌, map, replicate, true, false, codes};
 ghost use Rattle.odc_text.specs.Run.{exited, checked, strayed, going, out, err};
 ghost use Rattle.odc_text.specs.declared.check.Check.TheVariants as check;
 ghost use Rattle.odc_program.specs.Well.{well};
@@ -324,6 +324,41 @@ pub fn news()
     ensures { Leaves third.news (asked 1 (pos 0) (pos 8) (pos 8) nil (pos 0) ∷ map out (codes "5\n")) (exited 0) 45 1 }
 {}
 
+/// An append within the capacity asks no allocator.
+pub fn appends_within()
+    ensures { Prints third.appends_within (codes "2 5\n") (exited 0) 47 0 }
+{}
+
+/// `reserve` asks the kept allocator for a larger storage, and leaves the length.
+pub fn reserves()
+    ensures { Leaves third.reserves (asked 1 (pos 3) (pos 32) (pos 8) (to (global 1342177280 0) 0) (pos 24) ∷ map out (codes "3 4\n")) (exited 0) 81 1 }
+{}
+
+/// `free` gives back the size of what is pointed to.
+pub fn frees()
+    ensures { Leaves third.frees (asked 1 (pos 0) (pos 8) (pos 8) nil (pos 0) ∷ asked 1 (pos 1) (pos 0) (pos 0) (to (global 1342177280 0) 0) (pos 8) ∷ []) (exited 0) 64 2 }
+{}
+
+/// `make` and `delete` of a slice.
+pub fn makes()
+    ensures { Leaves third.makes (asked 1 (pos 0) (pos 16) (pos 8) nil (pos 0) ∷ map out (codes "2\n") ++ (asked 1 (pos 1) (pos 0) (pos 0) (to (global 1342177280 0) 0) (pos 16) ∷ [])) (exited 0) 75 2 }
+{}
+
+/// `free_all` names no memory.
+pub fn frees_all()
+    ensures { Leaves third.frees_all (asked 1 (pos 2) (pos 0) (pos 0) nil (pos 0) ∷ []) (exited 0) 30 1 }
+{}
+
+/// A loop over a slice reads its header once.
+pub fn over_slice()
+    ensures { Prints third.over_slice (codes "10\n20\n30\n") (exited 0) 39 3 }
+{}
+
+/// A default case may stand before the others.
+pub fn default_first()
+    ensures { Prints second.default_first (codes "9\n") (exited 0) 17 0 }
+{}
+
 /// A negative length stops.
 pub fn negative()
     ensures { Prints third.negative [] (checked check.Length (at 20)) 3 0 }
@@ -371,12 +406,12 @@ pub fn first_are_well()
 
 /// More of them, with loops, calls, helpers and files.
 pub fn second_are_well()
-    ensures { map well (second.by_place ∷ second.live ∷ second.counted ∷ second.endless ∷ second.switched ∷ second.spans ∷ second.variant ∷ second.tested ∷ second.answered ∷ second.nil_called ∷ second.named ∷ second.sides ∷ second.header_later ∷ second.deep ∷ second.left_early ∷ second.helped ∷ second.counts_down 3 ∷ second.short ∷ second.bits ∷ second.wide_shifts ∷ second.texts ∷ second.converted ∷ second.extremes ∷ second.truth ∷ second.truth_element ∷ second.padded ∷ second.located ∷ second.prints ∷ second.complains ∷ second.exits ∷ second.panics ∷ second.asserts ∷ second.copies_input ∷ second.dangling ∷ second.writes_literal ∷ []) ≡ replicate 35 true }
+    ensures { map well (second.by_place ∷ second.live ∷ second.counted ∷ second.endless ∷ second.switched ∷ second.spans ∷ second.variant ∷ second.default_first ∷ second.tested ∷ second.answered ∷ second.nil_called ∷ second.named ∷ second.sides ∷ second.header_later ∷ second.deep ∷ second.left_early ∷ second.helped ∷ second.counts_down 3 ∷ second.short ∷ second.bits ∷ second.wide_shifts ∷ second.texts ∷ second.converted ∷ second.extremes ∷ second.truth ∷ second.truth_element ∷ second.padded ∷ second.located ∷ second.prints ∷ second.complains ∷ second.exits ∷ second.panics ∷ second.asserts ∷ second.copies_input ∷ second.dangling ∷ second.writes_literal ∷ []) ≡ replicate 36 true }
 {}
 
 /// More of them, with containers in columns and allocators.
 pub fn third_are_well()
-    ensures { map well (third.in_columns ∷ third.loops_in_columns ∷ third.news ∷ third.negative ∷ third.negative_room ∷ third.too_long ∷ third.none_there ∷ third.out_of_memory ∷ third.copies ∷ third.cut_too_far ∷ ill.distinct_pointer ∷ []) ≡ replicate 11 true }
+    ensures { map well (third.in_columns ∷ third.loops_in_columns ∷ third.frees ∷ third.makes ∷ third.frees_all ∷ third.over_slice ∷ third.news ∷ third.negative ∷ third.negative_room ∷ third.too_long ∷ third.none_there ∷ third.out_of_memory ∷ third.copies ∷ third.cut_too_far ∷ ill.distinct_pointer ∷ []) ≡ replicate 15 true }
 {}
 
 /// Programs that aren't well: a call through another type, labels and variables that aren't there, variables that lie

@@ -15,10 +15,8 @@
 //! - Globals and types have no places for limits to name.
 //! - That a well program strays at a node of its own, and that the numbers of types don't matter, are not proved. Nor
 //!   are the laws of rewriting one kind of node into others.
-//! - These have no closed run: `make` with memory, an append without a growth, a growth by `reserve` or `resize`, `free`,
-//!   `free_all`, `delete` of a slice, the regions, `byte_slice` within its limits, removing from, cutting and copying
-//!   containers in columns, a marked call through a value, an injected part of several results, a default in a type
-//!   switch behind others, and loops over slices.
+//! - These have no closed run: a growth by `resize`, the regions, `byte_slice` within its limits, removing from, cutting
+//!   and copying containers in columns, a marked call through a value, and an injected part of several results.
 //! - Sequencing and spending (`specs/Run`) are parametric in the state and may move below.
 //! - No function makes, copies or gives up a tree.
 #![tactic(auto)]
