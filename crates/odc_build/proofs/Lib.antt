@@ -2,6 +2,6 @@ mod Weights
 mod Forms
 mod Rooms
 mod Widths
-mod Limits
+pub mod Limits
 mod Whole
 mod Counts

@@ -11,7 +11,7 @@ use Rattle.odc_typed.specs.Frame.{frame}
 use Rattle.odc_core.specs.Tree.{Stmts as CoreStmts, finish as done, follow as then, call as called, choose as branch, leave, answer as answered}
 use Rattle.odc_core.specs.declared.tree.Variable.{Variable}
 use Rattle.odc_context.specs.Code.{Own, join, one, put, waits, wait, held, all_waiting, place_code, turn_code, words_from, printing, print_code, values_code, line_code, operation_code, count, depth_of, depth_of_all, stmt_depth, stmts_depth, expr_code, exprs_code, stmt_code, stmts_code, begin_code, end_code, body_code, own_of, variables_of, crossed}
-use Rattle.odc_context.proofs.Values.{few}
+use Rattle.odc_context.proofs.simulation.Values.{few}
 use Rattle.odc_context.proofs.Procs.{stmts_fit}
 use Rattle.odc_mid.specs.Tree.{Proc as MidProc}
 use Rattle.odc_lower.specs.Size.{exprs_room, stmts_room}

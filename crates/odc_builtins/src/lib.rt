@@ -13,6 +13,3 @@ mod texts;
 pub use builtin::{Builtin, Home, built_in, known_in, name};
 pub use packages::{LibraryPackage, library, library_package};
 pub use texts::{MEM, RUNTIME};
-
-#[cfg(test)]
-mod tests;

@@ -21,10 +21,10 @@ use Rattle.odc_context.proofs.Sims.{read, Sim, seq, sim_act, sim_result}
 use Rattle.odc_context.proofs.Touched.{WordAt, word_apart, put_away, word_variable}
 use Rattle.odc_context.proofs.Frame.{env_at, ev, ex, ex1, exec_join, r_const, r_held, r_set, r_one}
 use Rattle.odc_context.proofs.Ties.{Floor, Tied, stays_same, loaded_word}
-use Rattle.odc_context.proofs.Texts.{AreSmall, values}
-use Rattle.odc_context.proofs.Exprs.{Fits, Ready, Live}
-use Rattle.odc_context.proofs.Nodes.{CallsFollow}
-use Rattle.odc_context.proofs.Values.{few}
+use Rattle.odc_context.proofs.simulation.Texts.{AreSmall, values}
+use Rattle.odc_context.proofs.simulation.Exprs.{Fits, Ready, Live}
+use Rattle.odc_context.proofs.simulation.Nodes.{CallsFollow}
+use Rattle.odc_context.proofs.simulation.Values.{few}
 use Rattle.odc_typed.specs.Bytes.{Block}
 use Rattle.odc_typed.specs.Source.{Flow as Left, falls as left_falls}
 use Rattle.odc_context.proofs.Sims.{onto_onto}
@@ -35,8 +35,8 @@ use Rattle.odc_core.specs.Tree.{answer as answered}
 use Rattle.odc_typed.specs.Memory.{open_block}
 use Rattle.odc_typed.specs.Source.{exec_all, returns}
 use Rattle.odc_typed.specs.Place.{place_of}
-use Rattle.odc_context.proofs.Stmts.{Gave, Done, Result, result_on}
-use Rattle.odc_context.proofs.Bodies.{scope_behind, stmts_sim}
+use Rattle.odc_context.proofs.simulation.Stmts.{Gave, Done, Result, result_on}
+use Rattle.odc_context.proofs.simulation.Bodies.{scope_behind, stmts_sim}
 use Rattle.odc_context.proofs.Sims.{sim_from}
 use Rattle.odc_context.specs.Code.{words_from, printing, own_of, begin_code, end_code, body_code, crossed}
 use Rattle.odc_typed.specs.declared.tree.Local.{Local}

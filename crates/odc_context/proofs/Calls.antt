@@ -18,10 +18,10 @@ use Rattle.odc_context.specs.Code.{Own, variables_of, one, count}
 use Rattle.odc_context.proofs.Runs.{Fueled, from, to}
 use Rattle.odc_context.proofs.Sims.{read, Sim, sim_richer, sim_act, sim_weaker}
 use Rattle.odc_context.proofs.Ties.{Floor, Tied, Stays}
-use Rattle.odc_context.proofs.Texts.{AreSmall, values}
-use Rattle.odc_context.proofs.Exprs.{Fits, Ready}
-use Rattle.odc_context.proofs.Nodes.{Called, CallsFollow}
-use Rattle.odc_context.proofs.Values.{few}
+use Rattle.odc_context.proofs.simulation.Texts.{AreSmall, values}
+use Rattle.odc_context.proofs.simulation.Exprs.{Fits, Ready}
+use Rattle.odc_context.proofs.simulation.Nodes.{Called, CallsFollow}
+use Rattle.odc_context.proofs.simulation.Values.{few}
 use Rattle.odc_context.proofs.Sims.{Begins, sim_turn}
 use Rattle.odc_text.specs.Run.{going}
 use Rattle.odc_context.proofs.Ties.{floor_below, tied_start, tied_back, stays_back}

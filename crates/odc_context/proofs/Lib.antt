@@ -3,21 +3,9 @@ pub mod Sims
 pub mod Touched
 pub mod Frame
 pub mod Turns
-pub mod Signs
-pub mod Printing
-pub mod Print
+-- each form of the source, and what its core code does
+pub mod simulation
 pub mod Ties
-pub mod Texts
-pub mod Exprs
-pub mod Nodes
-pub mod Calling
-pub mod Values
-pub mod Conditions
-pub mod Stmts
-pub mod Forms
-pub mod Loops
-pub mod Turning
-pub mod Bodies
 pub mod Procs
 pub mod Activation
 pub mod Calls

@@ -14,9 +14,9 @@ use Rattle.odc_core.specs.Words.{bytes_of as numbers_of}
 use Rattle.odc_core.specs.Memory.{Memory, put}
 use Rattle.odc_context.specs.Code.{Own, offset_of, depth_of, depth_of_all}
 use Rattle.odc_context.proofs.Ties.{Floor, Tied}
-use Rattle.odc_context.proofs.Texts.{AreSmall, values}
-use Rattle.odc_context.proofs.Exprs.{Fits}
-use Rattle.odc_context.proofs.Values.{few}
+use Rattle.odc_context.proofs.simulation.Texts.{AreSmall, values}
+use Rattle.odc_context.proofs.simulation.Exprs.{Fits}
+use Rattle.odc_context.proofs.simulation.Values.{few}
 use Rattle.odc_context.specs.Code.{stmt_depth, stmts_depth}
 use Rattle.odc_context.proofs.Ties.{tied_open, opened, open_stays}
 use Rattle.odc_typed.specs.Tree.{Stmt as Source, eval, declare, assign, choose, repeat, answer, Stmts as Sources, finish as ended, follow as before}

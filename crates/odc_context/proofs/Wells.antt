@@ -14,10 +14,10 @@ use Rattle.odc_typed.specs.Well.{AllWell as AllWellSource, IsWell as IsWellSourc
 use Rattle.odc_core.specs.Tree.{Expr as CoreExpr, const as word, Stmts as CoreStmts, finish as done, follow as then, Proc as CoreProc}
 use Rattle.odc_core.specs.Well.{Names, count as core_count, IsExpr, AreExprs, AreStmts, parameters_of, names_in, IsWellProc, AllWell, IsMain, IsWell}
 use Rattle.odc_context.specs.Code.{Own, join, one, buffer_at, pointer_at, number_at, all_waiting, before, digit_code, write_code, print_code, values_code, line_code, operation_code, count, expr_code, exprs_code, depth_of, depth_of_all, place_code, stmt_code, stmts_code, stmt_depth, stmts_depth, own_of, begin_code, end_code, crossed, crossed_program}
-use Rattle.odc_context.proofs.Texts.{word_fits}
+use Rattle.odc_context.proofs.simulation.Texts.{word_fits}
 use Rattle.rv_table.specs.Words.{flag}
 use Rattle.std.specs.Prelude.{Bool, true, false}
-use Rattle.odc_context.proofs.Values.{few, depth_some}
+use Rattle.odc_context.proofs.simulation.Values.{few, depth_some}
 use Rattle.odc_context.proofs.Procs.{frame_room}
 use Rattle.odc_context.proofs.Calls.{mapped_get}
 use Rattle.odc_context.proofs.Laid.{words_length, words_laid, words_parameters, rounded_even}

@@ -20,8 +20,8 @@ use Rattle.odc_context.specs.Code.{Own, own_of, crossed, crossed_program}
 use Rattle.odc_context.proofs.Runs.{Fueled, from, to}
 use Rattle.odc_context.proofs.Sims.{read, Sim, Follows}
 use Rattle.odc_context.proofs.Ties.{Floor, Tied}
-use Rattle.odc_context.proofs.Exprs.{Fits}
-use Rattle.odc_context.proofs.Nodes.{CallsFollow}
+use Rattle.odc_context.proofs.simulation.Exprs.{Fits}
+use Rattle.odc_context.proofs.simulation.Nodes.{CallsFollow}
 use Rattle.odc_context.proofs.Procs.{frame_fits}
 use Rattle.odc_context.proofs.Activation.{Returned, activation_sim}
 use Rattle.odc_context.proofs.Calls.{mapped_get, well_at, room_same, room_fits, all_calls}

@@ -13,5 +13,3 @@ mod own;
 mod pieces;
 mod procedure;
 mod statement;
-#[cfg(test)]
-mod tests;

@@ -7,9 +7,9 @@ use Rattle.std.proofs.lemmas.Bool.{false≢true}
 use Rattle.bstr.specs.Utf8.{decoded, Decoded}
 use Rattle.bstr.proofs.lemmas.SoundLemmas.{SpellsChar-decoded}
 use Rattle.bstr.proofs.lemmas.EncodeLemmas.{decoded-encode}
-use Rattle.odc_syntax.specs.Words.{IsCharacter}
-use Rattle.odc_syntax.specs.Longest.{Absent}
-use Rattle.odc_syntax.specs.Comments.{is_any}
+use Rattle.odc_syntax.specs.lexical.Words.{IsCharacter}
+use Rattle.odc_syntax.specs.lexical.Longest.{Absent}
+use Rattle.odc_syntax.specs.lexical.Comments.{is_any}
 use Rattle.odc_lex.specs.declared.character.Character.{Character}
 use Rattle.odc_lex.specs.Character.{IsFirstCharacter}
 

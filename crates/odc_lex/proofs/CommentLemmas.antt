@@ -1,9 +1,9 @@
 -- Comments.
 use Rattle.std.proofs.Common.{◌≡◌, ℕ, zero, suc, ◌+◌, ◌-◌, ◌<◌, ◌≤◌, List, [], ◌∷◌, ◌++◌, length, take, drop, refl, sym, ◌∙◌, ap, subst, ⊎_elim, arith, lit<, append-nil, append_assoc, take-append-drop, length-take, length-drop, length-append}
 use Rattle.std.proofs.lemmas.List.{take_rest}
-use Rattle.odc_syntax.specs.Words.{IsCharacter}
-use Rattle.odc_syntax.specs.Longest.{Begins, Absent, IsOnlyFront, IsWholeRun}
-use Rattle.odc_syntax.specs.Comments.{Closes, nothing, close, open', other, BeginsWith, IsLineComment, EndsLine, is_any, is_no_newline}
+use Rattle.odc_syntax.specs.lexical.Words.{IsCharacter}
+use Rattle.odc_syntax.specs.lexical.Longest.{Begins, Absent, IsOnlyFront, IsWholeRun}
+use Rattle.odc_syntax.specs.lexical.Comments.{Closes, nothing, close, open', other, BeginsWith, IsLineComment, EndsLine, is_any, is_no_newline}
 use Rattle.odc_syntax.proofs.Longest.{run_best, cancel, take_join}
 use Rattle.odc_syntax.proofs.Fronts.{drop_join}
 use Rattle.odc_syntax.proofs.Units.{characters_are_units, ascii_character}

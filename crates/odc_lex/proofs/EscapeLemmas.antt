@@ -3,7 +3,7 @@ use Rattle.std.proofs.Common.{◌≡◌, ℕ, suc, ◌≤◌, ◌<◌, ◌+◌, 
 use Rattle.std.proofs.Math.Nat.{pow-le-pow_right}
 use native.Mathlib.Numerals.{unary_clauses}
 use Rattle.std.specs.Char.{IsScalar}
-use Rattle.odc_syntax.specs.Texts.{IsEscape, short, coded, is_short_escape, hex_digits}
+use Rattle.odc_syntax.specs.lexical.Texts.{IsEscape, short, coded, is_short_escape, hex_digits}
 use Rattle.odc_lex.specs.Escape.{WritesHex}
 
 -- the first two bytes, and those behind them

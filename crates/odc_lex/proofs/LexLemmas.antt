@@ -10,8 +10,8 @@ use Rattle.odc_text.specs.declared.place.FileId.{FileId}
 use Rattle.odc_text.specs.declared.place.Place.{Place}
 use Rattle.odc_text.specs.declared.code.Code.TheVariants.{X01}
 use Rattle.odc_syntax.specs.declared.token.Token.{Token}
-use Rattle.odc_syntax.specs.Pieces.{Piece, bytes_of, is_number, IsLongest, NoPiece, spelled, IsCut, ends_in_number}
-use Rattle.odc_syntax.specs.Lexes.{past, behind, tokens_of, start, mark_len, body, Lexes, IsStuck}
+use Rattle.odc_syntax.specs.lexical.Pieces.{Piece, bytes_of, is_number, IsLongest, NoPiece, spelled, IsCut, ends_in_number}
+use Rattle.odc_syntax.specs.lexical.Lexes.{past, behind, tokens_of, start, mark_len, body, Lexes, IsStuck}
 use Rattle.odc_syntax.proofs.CutLemmas.{stuck_lost}
 use Rattle.odc_syntax.proofs.Fronts.{drop_join}
 use Rattle.odc_lex.specs.declared.state.State.{State}

@@ -5,9 +5,9 @@ use Rattle.std.specs.Option.{unwrap_or}
 use Rattle.std.proofs.lemmas.Bool.Decides.{nat_tests}
 use Rattle.std.proofs.lemmas.Bool.{or_left, or_right}
 use Rattle.odc_syntax.specs.declared.token.TokenKind.{TokenKind}
-use Rattle.odc_syntax.specs.Words.{IsByte, Then}
-use Rattle.odc_syntax.specs.Longest.{Begins, Absent, Best, Heads, IsFront, FindsFront, FindsUnit, IsWholeRun, Never}
-use Rattle.odc_syntax.specs.Numbers.{Digits, Prefix, IsBased, Optional, IsFraction, IsExponent, IsUnitLetter, DecimalTail, number_kind, IsNumber, decimal, based, IsNumberFront, is_digit_of, is_digit_or_underscore, is_underscore, is_exponent_letter, is_plus_or_minus}
+use Rattle.odc_syntax.specs.lexical.Words.{IsByte, Then}
+use Rattle.odc_syntax.specs.lexical.Longest.{Begins, Absent, Best, Heads, IsFront, FindsFront, FindsUnit, IsWholeRun, Never}
+use Rattle.odc_syntax.specs.lexical.Numbers.{Digits, Prefix, IsBased, Optional, IsFraction, IsExponent, IsUnitLetter, DecimalTail, number_kind, IsNumber, decimal, based, IsNumberFront, is_digit_of, is_digit_or_underscore, is_underscore, is_exponent_letter, is_plus_or_minus}
 use Rattle.odc_syntax.proofs.Longest.{cancel_along, take_join, best_longest}
 use Rattle.odc_syntax.proofs.Units.{bytes_are_units}
 use Rattle.odc_syntax.proofs.Fronts.{then_front, run_front, unit_front, optional_front}

@@ -5,14 +5,14 @@ use Rattle.std.specs.List.{list_any}
 use Rattle.std.proofs.lemmas.Bool.{false≢true}
 use Rattle.odc_syntax.specs.declared.token.TokenKind.{TokenKind}
 use Rattle.odc_syntax.specs.declared.token.TokenKind.TheVariants as kinds
-use Rattle.odc_syntax.specs.Longest.{Absent, IsFront, IsOnlyFront}
-use Rattle.odc_syntax.specs.Names.{IsWord, IsDirective, word_kind}
-use Rattle.odc_syntax.specs.Numbers.{IsNumber}
-use Rattle.odc_syntax.specs.Texts.{IsRune, IsQuoted, IsRaw}
-use Rattle.odc_syntax.specs.Comments.{IsLineComment, IsBlockComment}
-use Rattle.odc_syntax.specs.Signs.{IsSign}
-use Rattle.odc_syntax.specs.Pieces.{Piece, blank, newline, token, bytes_of, IsPiece, white, line_end, line_comment, block_comment, word, number, rune, quoted, raw, directive, sign, comment, IsWhite, BeginsComment, NoPiece}
-use Rattle.odc_syntax.specs.Classes.{Class, class_of, white_class, newline_class, line_comment_class, block_comment_class, word_class, number_class, rune_class, quoted_class, raw_class, directive_class, sign_class}
+use Rattle.odc_syntax.specs.lexical.Longest.{Absent, IsFront, IsOnlyFront}
+use Rattle.odc_syntax.specs.lexical.Names.{IsWord, IsDirective, word_kind}
+use Rattle.odc_syntax.specs.lexical.Numbers.{IsNumber}
+use Rattle.odc_syntax.specs.lexical.Texts.{IsRune, IsQuoted, IsRaw}
+use Rattle.odc_syntax.specs.lexical.Comments.{IsLineComment, IsBlockComment}
+use Rattle.odc_syntax.specs.lexical.Signs.{IsSign}
+use Rattle.odc_syntax.specs.lexical.Pieces.{Piece, blank, newline, token, bytes_of, IsPiece, white, line_end, line_comment, block_comment, word, number, rune, quoted, raw, directive, sign, comment, IsWhite, BeginsComment, NoPiece}
+use Rattle.odc_syntax.specs.lexical.Classes.{Class, class_of, white_class, newline_class, line_comment_class, block_comment_class, word_class, number_class, rune_class, quoted_class, raw_class, directive_class, sign_class}
 use Rattle.odc_syntax.proofs.Longest.{best_longest}
 use Rattle.odc_syntax.proofs.ClassLemmas.{shape, classified, bytes_of_comment, only_white, only_newline, only_line_comment, only_block_comment, only_word, only_number, only_rune, only_quoted, only_raw, only_directive, only_sign}
 use Rattle.odc_syntax.proofs.CutLemmas.{piece_some}

@@ -4,9 +4,9 @@ use Rattle.std.specs.Prelude.{if◌then◌else◌, option_to_list}
 use Rattle.odc_text.specs.declared.place.Place.{Place}
 use Rattle.odc_syntax.specs.declared.token.Token.{Token}
 use Rattle.odc_syntax.specs.declared.token.TokenKind.{TokenKind}
-use Rattle.odc_syntax.specs.Pieces.{Piece, token}
-use Rattle.odc_syntax.specs.Wording.{word_of}
-use Rattle.odc_syntax.specs.Lexes.{behind, ends_statement, joins_lines, innermost, at_newline, else_follows, is_else, tokens_of, open_behind, semicolon_behind}
+use Rattle.odc_syntax.specs.lexical.Pieces.{Piece, token}
+use Rattle.odc_syntax.specs.lexical.Wording.{word_of}
+use Rattle.odc_syntax.specs.lexical.Lexes.{behind, ends_statement, joins_lines, innermost, at_newline, else_follows, is_else, tokens_of, open_behind, semicolon_behind}
 use Rattle.odc_lex.specs.declared.state.State.{State}
 use Rattle.odc_lex.specs.declared.state.Ending.{Ending}
 use Rattle.odc_lex.specs.declared.state.Ending.TheVariants.{Never, AtNewline, Ended}

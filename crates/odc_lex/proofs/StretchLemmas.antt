@@ -2,9 +2,9 @@
 use Rattle.std.proofs.Common.{◌≡◌, ℕ, ◌+◌, ◌-◌, ◌<◌, ◌≤◌, Bool, false, List, ◌∷◌, ◌++◌, length, take, drop, refl, sym, ◌∙◌, ap, subst, arith, lit<}
 use Rattle.std.proofs.lemmas.List.{take_rest}
 use Rattle.std.proofs.lemmas.Bool.{false≢true}
-use Rattle.odc_syntax.specs.Words.{Led, Run}
-use Rattle.odc_syntax.specs.Longest.{Begins, Absent, IsFront, Never, IsWholeRun}
-use Rattle.odc_syntax.specs.Texts.{IsBetween, IsItem, plain, escape, is_plain_text}
+use Rattle.odc_syntax.specs.lexical.Words.{Led, Run}
+use Rattle.odc_syntax.specs.lexical.Longest.{Begins, Absent, IsFront, Never, IsWholeRun}
+use Rattle.odc_syntax.specs.lexical.Texts.{IsBetween, IsItem, plain, escape, is_plain_text}
 use Rattle.odc_syntax.proofs.Units.{ascii_character, escape_head, items_are_units}
 use Rattle.odc_syntax.proofs.Fronts.{led_front, run_front, unit_front, between_front, between_open, between_absent}
 use Rattle.odc_lex.specs.declared.unit.Unit.{Unit}

@@ -6,8 +6,8 @@ use Rattle.std.proofs.lemmas.List.{take_at}
 use Rattle.std.proofs.lemmas.Bool.{false≢true, and_parts, ne_eqb}
 use Rattle.std.proofs.lemmas.Slice.Eq.{bytes_eq-Decides}
 use Rattle.odc_syntax.specs.declared.token.TokenKind.{TokenKind}
-use Rattle.odc_syntax.specs.Names.{Row, keywords, kind_among, word_kind}
-use Rattle.odc_syntax.specs.Signs.{signs, IsAmong, IsSign}
+use Rattle.odc_syntax.specs.lexical.Names.{Row, keywords, kind_among, word_kind}
+use Rattle.odc_syntax.specs.lexical.Signs.{signs, IsAmong, IsSign}
 use Rattle.odc_syntax.proofs.SignLemmas.{none_begins, is_parted, signs_are_parted, later}
 use Rattle.odc_lex.specs.declared.number.Lexeme.{Lexeme}
 use Rattle.odc_lex.specs.Table.{first_front, FindsRow, SignFront, NoSign}

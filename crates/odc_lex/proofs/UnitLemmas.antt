@@ -1,9 +1,9 @@
 -- The lexer's units.
 use Rattle.std.proofs.Common.{◌+◌, ◌-◌, subst, Bool, Option, Some, None, ◌≤◌, arith, length-take, ◌≡◌, ℕ, ◌<◌, List, ◌++◌, length, refl, drop, take}
-use Rattle.odc_syntax.specs.Longest.{Absent, FindsUnit}
-use Rattle.odc_syntax.specs.Texts.{IsItem, IsEscape, plain, escape}
+use Rattle.odc_syntax.specs.lexical.Longest.{Absent, FindsUnit}
+use Rattle.odc_syntax.specs.lexical.Texts.{IsItem, IsEscape, plain, escape}
 use Rattle.std.proofs.lemmas.List.{take_rest}
-use Rattle.odc_syntax.specs.Words.{IsCharacter, Run}
+use Rattle.odc_syntax.specs.lexical.Words.{IsCharacter, Run}
 use Rattle.odc_syntax.proofs.Longest.{AreUnits, run_more}
 use Rattle.odc_syntax.proofs.Units.{bytes_are_units, characters_are_units, items_are_units}
 use Rattle.odc_lex.specs.declared.unit.Unit.{Unit}

@@ -8,7 +8,7 @@ use Rattle.std.proofs.lemmas.List.{drop_more}
 use Rattle.std.proofs.lemmas.Str.{encode_ascii}
 use Rattle.std.specs.Char.{digit_value, encode_utf8}
 use Rattle.std.specs.List.{list_all}
-use Rattle.odc_syntax.specs.Value.{coded_bytes, unescaped}
+use Rattle.odc_syntax.specs.lexical.Value.{coded_bytes, unescaped}
 use Rattle.odc_lex.specs.declared.value.Coded.{Coded}
 use Rattle.odc_lex.specs.declared.value.Reading.{Reading}
 use Rattle.odc_lex.specs.declared.value.Step.{Step}

@@ -1,6 +1,6 @@
 -- How the lexer reads comments that may hold others.
 use Rattle.std.specs.Prelude.{◌≡◌, ℕ, ◌<◌, ◌≤◌, ◌+◌, List, ◌++◌, length, take, drop}
-use Rattle.odc_syntax.specs.Comments.{Closes}
+use Rattle.odc_syntax.specs.lexical.Comments.{Closes}
 use Rattle.odc_lex.specs.declared.comment.Step.{Step}
 
 -- the text begins with what closes so many comments

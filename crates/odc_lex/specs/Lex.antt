@@ -5,7 +5,7 @@ use Rattle.odc_text.specs.declared.place.FileId.{FileId}
 use Rattle.odc_text.specs.declared.place.Place.{Place}
 use Rattle.odc_text.specs.declared.code.Fault as faults
 use Rattle.odc_syntax.specs.declared.token.Token.{Token}
-use Rattle.odc_syntax.specs.Lexes.{Lexes, IsStuck}
+use Rattle.odc_syntax.specs.lexical.Lexes.{Lexes, IsStuck}
 use Rattle.odc_lex.specs.declared.error.LexError.{LexError}
 use Rattle.odc_lex.specs.declared.error.LexError.TheVariants.{Fault, Memory}
 

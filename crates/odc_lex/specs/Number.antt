@@ -2,9 +2,9 @@
 use Rattle.std.specs.Prelude.{◌≡◌, ℕ, zero, suc, Bool, ◌||◌, List, ◌++◌}
 use Rattle.odc_syntax.specs.declared.token.TokenKind.{TokenKind}
 use Rattle.odc_syntax.specs.declared.token.TokenKind.TheVariants.{Int, Float}
-use Rattle.odc_syntax.specs.Words.{IsByte}
-use Rattle.odc_syntax.specs.Longest.{Begins, Heads}
-use Rattle.odc_syntax.specs.Numbers.{IsNumber, IsNumberFront, is_digit_or_underscore, is_plus_or_minus}
+use Rattle.odc_syntax.specs.lexical.Words.{IsByte}
+use Rattle.odc_syntax.specs.lexical.Longest.{Begins, Heads}
+use Rattle.odc_syntax.specs.lexical.Numbers.{IsNumber, IsNumberFront, is_digit_or_underscore, is_plus_or_minus}
 use Rattle.odc_lex.specs.declared.number.Lexeme.{Lexeme}
 
 abbrev pub LexemeFront : List ℕ → Lexeme → Type 0

@@ -1,8 +1,8 @@
 -- The piece at the front of a text, as the lexer tells it.
 use Rattle.std.specs.Prelude.{◌≡◌, ℕ, ◌<◌, ◌≤◌, Bool, ◌==◌, List, length, take, drop, Option, Some, None, if◌then◌else◌}
 use Rattle.std.specs.List.{list_any}
-use Rattle.odc_syntax.specs.Pieces.{Piece, blank, newline, token, bytes_of, IsLongest, NoPiece}
-use Rattle.odc_syntax.specs.Classes as classes
+use Rattle.odc_syntax.specs.lexical.Pieces.{Piece, blank, newline, token, bytes_of, IsLongest, NoPiece}
+use Rattle.odc_syntax.specs.lexical.Classes as classes
 use Rattle.odc_lex.specs.declared.piece.Form.{Form}
 use Rattle.odc_lex.specs.declared.piece.Form.TheVariants as forms
 use Rattle.odc_lex.specs.declared.piece.Found.{Found}

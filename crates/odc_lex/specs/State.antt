@@ -3,8 +3,8 @@ use Rattle.std.specs.Prelude.{◌≡◌, ℕ, ◌+◌, ◌<◌, ◌^◌, not, �
 use Rattle.odc_text.specs.declared.place.Place.{Place}
 use Rattle.odc_syntax.specs.declared.token.Token.{Token}
 use Rattle.odc_syntax.specs.declared.token.TokenKind.{TokenKind}
-use Rattle.odc_syntax.specs.Pieces.{Piece, bytes_of, is_number}
-use Rattle.odc_syntax.specs.Lexes.{behind, ends_statement, joins_lines, innermost, at_newline, else_follows, is_else, tokens_of, inserted}
+use Rattle.odc_syntax.specs.lexical.Pieces.{Piece, bytes_of, is_number}
+use Rattle.odc_syntax.specs.lexical.Lexes.{behind, ends_statement, joins_lines, innermost, at_newline, else_follows, is_else, tokens_of, inserted}
 use Rattle.odc_lex.specs.declared.state.State.{State}
 use Rattle.odc_lex.specs.declared.state.Ending.{Ending}
 use Rattle.odc_lex.specs.declared.state.Ending.TheVariants.{Never, AtNewline, Ended}

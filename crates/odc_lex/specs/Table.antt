@@ -2,8 +2,8 @@
 use Rattle.std.specs.Prelude.{◌≡◌, ℕ, ◌≤◌, List, [], ◌∷◌, ◌++◌, length, take, map, nat_eq, Option, Some, None, if◌then◌else◌}
 use Rattle.std.specs.List.{starts_with}
 use Rattle.odc_syntax.specs.declared.token.TokenKind.{TokenKind}
-use Rattle.odc_syntax.specs.Names.{Row}
-use Rattle.odc_syntax.specs.Signs.{IsSign}
+use Rattle.odc_syntax.specs.lexical.Names.{Row}
+use Rattle.odc_syntax.specs.lexical.Signs.{IsSign}
 use Rattle.std.specs.Borrow.{Bor}
 use Rattle.odc_lex.specs.declared.number.Lexeme.{Lexeme}
 

@@ -1,12 +1,12 @@
 -- What the lexer's classes of bytes and characters stand for.
 use Rattle.std.specs.Prelude.{ℕ, Bool, List, ◌∷◌}
-use Rattle.odc_syntax.specs.Words.{IsByte, IsCharacter}
-use Rattle.odc_syntax.specs.Longest.{Begins}
-use Rattle.odc_syntax.specs.Names.{starts_name, continues_name}
-use Rattle.odc_syntax.specs.Numbers.{is_digit_of, is_digit_or_underscore, is_underscore, is_plus_or_minus, is_exponent_letter, is_unit_letter}
-use Rattle.odc_syntax.specs.Texts.{IsItem, is_plain_rune, is_plain_text, is_raw}
-use Rattle.odc_syntax.specs.Comments.{is_no_newline}
-use Rattle.odc_syntax.specs.Pieces.{is_white}
+use Rattle.odc_syntax.specs.lexical.Words.{IsByte, IsCharacter}
+use Rattle.odc_syntax.specs.lexical.Longest.{Begins}
+use Rattle.odc_syntax.specs.lexical.Names.{starts_name, continues_name}
+use Rattle.odc_syntax.specs.lexical.Numbers.{is_digit_of, is_digit_or_underscore, is_underscore, is_plus_or_minus, is_exponent_letter, is_unit_letter}
+use Rattle.odc_syntax.specs.lexical.Texts.{IsItem, is_plain_rune, is_plain_text, is_raw}
+use Rattle.odc_syntax.specs.lexical.Comments.{is_no_newline}
+use Rattle.odc_syntax.specs.lexical.Pieces.{is_white}
 use Rattle.odc_lex.specs.declared.unit.ByteClass.{ByteClass}
 use Rattle.odc_lex.specs.declared.unit.ByteClass.TheVariants.{White, Digit, DigitOrUnderscore, Underscore, PlusOrMinus, ExponentLetter, UnitLetter}
 use Rattle.odc_lex.specs.declared.unit.CharacterClass.{CharacterClass}

@@ -1,7 +1,7 @@
 -- Reading the value of a string byte by byte.
 use Rattle.std.specs.Prelude.{◌≡◌, ◌≤◌, ◌+◌, ◌*◌, ◌^◌, ⊤, ℕ, Bool, Option, Some, None, nat_lt, List, [], ◌∷◌, ◌++◌}
-use Rattle.odc_syntax.specs.Value.{outside, backslash, digits, coded_bytes, unescaped}
-use Rattle.odc_syntax.specs.Value as value
+use Rattle.odc_syntax.specs.lexical.Value.{outside, backslash, digits, coded_bytes, unescaped}
+use Rattle.odc_syntax.specs.lexical.Value as value
 use Rattle.odc_lex.specs.declared.value.Coded.{Coded}
 use Rattle.odc_lex.specs.declared.value.Reading.{Reading}
 use Rattle.odc_lex.specs.declared.value.Reading.TheVariants.{Outside, Backslash, Digits}

@@ -1,9 +1,9 @@
 //! The character at the front of a text.
 
 ghost use Rattle.std.specs.Prelude.{IfSome, IfNone};
-ghost use Rattle.odc_syntax.specs.Words.{IsCharacter};
-ghost use Rattle.odc_syntax.specs.Longest.{Absent};
-ghost use Rattle.odc_syntax.specs.Comments.{is_any};
+ghost use Rattle.odc_syntax.specs.lexical.Words.{IsCharacter};
+ghost use Rattle.odc_syntax.specs.lexical.Longest.{Absent};
+ghost use Rattle.odc_syntax.specs.lexical.Comments.{is_any};
 ghost use Rattle.odc_lex.specs.Character.{IsFirstCharacter};
 
 use bstr::decode_utf8;

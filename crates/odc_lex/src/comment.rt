@@ -2,8 +2,8 @@
 
 ghost use Rattle.std.specs.Prelude.{ℕ, List, ◌<◌, ◌≤◌, ◌+◌, ◌^◌, ◌∷◌, ◌≡◌, length, drop, IfSome, IfNone};
 ghost use Rattle.std.specs.Bool.{OnTrue, OnFalse};
-ghost use Rattle.odc_syntax.specs.Comments.{Closes, IsLineComment, IsBlockComment, EndsLine};
-ghost use Rattle.odc_syntax.specs.Longest.{FindsOnlyFront};
+ghost use Rattle.odc_syntax.specs.lexical.Comments.{Closes, IsLineComment, IsBlockComment, EndsLine};
+ghost use Rattle.odc_syntax.specs.lexical.Longest.{FindsOnlyFront};
 ghost use Rattle.odc_lex.specs.Comment.{CanClose, IsStep};
 
 use crate::character::first_character;

@@ -2,8 +2,8 @@
 
 ghost use Rattle.std.specs.Prelude.{◌≡◌, ◌≤◌, true, length, take, IfSome, IfNone};
 ghost use Rattle.std.specs.List.{list_all};
-ghost use Rattle.odc_syntax.specs.Longest.{FindsUnit};
-ghost use Rattle.odc_syntax.specs.Texts.{IsEscape, is_short_escape, hex_digits, hex_value, is_hex_digit};
+ghost use Rattle.odc_syntax.specs.lexical.Longest.{FindsUnit};
+ghost use Rattle.odc_syntax.specs.lexical.Texts.{IsEscape, is_short_escape, hex_digits, hex_value, is_hex_digit};
 ghost use Rattle.odc_lex.specs.Escape.{WritesHex};
 
 use crate::unit::digit_value;

@@ -1,7 +1,7 @@
 //! From the bytes of a text to its tokens.
 
 ghost use Rattle.std.specs.Prelude.{◌≡◌, ◌<◌, ◌-◌, ◌^◌, length, IfOk, IfErr};
-ghost use Rattle.odc_syntax.specs.Lexes.{Lexes, mark_len};
+ghost use Rattle.odc_syntax.specs.lexical.Lexes.{Lexes, mark_len};
 ghost use Rattle.odc_lex.specs.Lex.{HasNoTokens};
 
 use crate::error::LexError;

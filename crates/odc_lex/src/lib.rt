@@ -21,6 +21,3 @@ mod wording;
 
 pub use error::LexError;
 pub use lexer::lex;
-
-#[cfg(test)]
-mod tests;

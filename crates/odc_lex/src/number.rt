@@ -1,9 +1,9 @@
 //! Numbers.
 
 ghost use Rattle.std.specs.Prelude.{◌≡◌, ◌≤◌, ℕ, IfSome, IfNone};
-ghost use Rattle.odc_syntax.specs.Words.{IsByte, Run, Then};
-ghost use Rattle.odc_syntax.specs.Longest.{Absent, FindsFront, Heads, IsFront};
-ghost use Rattle.odc_syntax.specs.Numbers.{Digits, IsBased, IsExponent, IsFraction, Optional, IsUnitLetter, DecimalTail, Prefix, is_digit_or_underscore, is_underscore, is_plus_or_minus};
+ghost use Rattle.odc_syntax.specs.lexical.Words.{IsByte, Run, Then};
+ghost use Rattle.odc_syntax.specs.lexical.Longest.{Absent, FindsFront, Heads, IsFront};
+ghost use Rattle.odc_syntax.specs.lexical.Numbers.{Digits, IsBased, IsExponent, IsFraction, Optional, IsUnitLetter, DecimalTail, Prefix, is_digit_or_underscore, is_underscore, is_plus_or_minus};
 ghost use Rattle.odc_lex.specs.Number.{LexemeFront, NoNumber, AfterDigits, AfterExponent, AfterTail, kind_by_tail};
 
 use crate::stretch::{begins_with, digits_len};

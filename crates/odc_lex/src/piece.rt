@@ -1,7 +1,7 @@
 //! The piece at the front of a text.
 
 ghost use Rattle.std.specs.Prelude.{◌≡◌, ◌<◌, Bool, false, length, slice_index};
-ghost use Rattle.odc_syntax.specs.Classes.{class_at, class_of, white_class, newline_class, line_comment_class, block_comment_class, word_class, number_class, rune_class, quoted_class, raw_class, directive_class, sign_class};
+ghost use Rattle.odc_syntax.specs.lexical.Classes.{class_at, class_of, white_class, newline_class, line_comment_class, block_comment_class, word_class, number_class, rune_class, quoted_class, raw_class, directive_class, sign_class};
 ghost use Rattle.odc_lex.specs.Piece.{class_told, comment_form, FindsPiece};
 
 use crate::comment::{block_comment_len, line_comment_len};

@@ -2,8 +2,8 @@
 //! ends the statement.
 
 ghost use Rattle.std.specs.Prelude.{◌≡◌, ◌+◌, ◌<◌, ◌≤◌, ◌^◌, ◌-◌, ◌++◌, length, OnOk, IfOk, []};
-ghost use Rattle.odc_syntax.specs.Pieces.{blank, newline, token, is_number_kind};
-ghost use Rattle.odc_syntax.specs.Lexes.{behind, ends_statement, inserted, is_else, joins_lines, innermost, open_behind};
+ghost use Rattle.odc_syntax.specs.lexical.Pieces.{blank, newline, token, is_number_kind};
+ghost use Rattle.odc_syntax.specs.lexical.Lexes.{behind, ends_statement, inserted, is_else, joins_lines, innermost, open_behind};
 ghost use Rattle.odc_lex.specs.State.{Steps, HasRoom, before_token, before_end, ending_behind, ending_at_newline, total};
 ghost use Rattle.odc_lex.specs.Piece.{piece_of};
 

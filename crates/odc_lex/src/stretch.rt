@@ -3,12 +3,12 @@
 
 ghost use Rattle.std.specs.Prelude.{ℕ, List, ◌∷◌, ◌≡◌, drop};
 ghost use Rattle.std.specs.Bool.{OnTrue, OnFalse};
-ghost use Rattle.odc_syntax.specs.Words.{Led, IsByte, Run};
-ghost use Rattle.odc_syntax.specs.Longest.{Begins, FindsFront, Never};
-ghost use Rattle.odc_syntax.specs.Names.{IsWord, IsDirective};
-ghost use Rattle.odc_syntax.specs.Numbers.{Digits};
-ghost use Rattle.odc_syntax.specs.Texts.{IsBetween, IsRune, IsQuoted, IsRaw};
-ghost use Rattle.odc_syntax.specs.Pieces.{IsWhite};
+ghost use Rattle.odc_syntax.specs.lexical.Words.{Led, IsByte, Run};
+ghost use Rattle.odc_syntax.specs.lexical.Longest.{Begins, FindsFront, Never};
+ghost use Rattle.odc_syntax.specs.lexical.Names.{IsWord, IsDirective};
+ghost use Rattle.odc_syntax.specs.lexical.Numbers.{Digits};
+ghost use Rattle.odc_syntax.specs.lexical.Texts.{IsBetween, IsRune, IsQuoted, IsRaw};
+ghost use Rattle.odc_syntax.specs.lexical.Pieces.{IsWhite};
 ghost use Rattle.odc_lex.specs.Unit.{byte_test, character_test, IsUnit, NoneBegins};
 
 use crate::unit::{ByteClass, CharacterClass, Quote, Unit, item_len, run_len, unit_len};

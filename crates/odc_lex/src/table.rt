@@ -1,8 +1,8 @@
 //! The texts that are always the same token: keywords and signs.
 
 ghost use Rattle.std.specs.Prelude.{◌≡◌, ℕ, List, ◌∷◌, IfSome, IfNone};
-ghost use Rattle.odc_syntax.specs.Names.{word_kind, kind_among, keywords};
-ghost use Rattle.odc_syntax.specs.Signs.{signs};
+ghost use Rattle.odc_syntax.specs.lexical.Names.{word_kind, kind_among, keywords};
+ghost use Rattle.odc_syntax.specs.lexical.Signs.{signs};
 ghost use Rattle.odc_lex.specs.Table.{rows_of, first_front, SignFront, NoSign, FindsRow};
 
 use crate::number::Lexeme;

@@ -3,10 +3,10 @@
 
 ghost use Rattle.std.specs.Prelude.{◌≡◌, ◌≤◌, ◌<◌, ◌+◌, ◌*◌, ◌^◌, length, take, drop, IfSome, IfNone};
 ghost use Rattle.std.specs.Char.{digit_value};
-ghost use Rattle.odc_syntax.specs.Words.{IsByte, IsCharacter};
-ghost use Rattle.odc_syntax.specs.Longest.{Absent, FindsUnit, IsWholeRun};
-ghost use Rattle.odc_syntax.specs.Texts.{IsItem};
-ghost use Rattle.odc_syntax.specs.Comments.{is_any};
+ghost use Rattle.odc_syntax.specs.lexical.Words.{IsByte, IsCharacter};
+ghost use Rattle.odc_syntax.specs.lexical.Longest.{Absent, FindsUnit, IsWholeRun};
+ghost use Rattle.odc_syntax.specs.lexical.Texts.{IsItem};
+ghost use Rattle.odc_syntax.specs.lexical.Comments.{is_any};
 ghost use Rattle.odc_lex.specs.Character.{IsFirstCharacter};
 ghost use Rattle.odc_lex.specs.Unit.{byte_test, character_test, item_test, IsUnit};
 

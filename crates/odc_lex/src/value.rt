@@ -3,8 +3,8 @@
 
 ghost use Rattle.std.specs.Prelude.{◌≡◌, true, bytes_eq};
 ghost use Rattle.std.specs.List.{list_all};
-ghost use Rattle.odc_syntax.specs.Texts.{hex_digits};
-ghost use Rattle.odc_syntax.specs.Value.{short_escape, outside, unescaped, text_value};
+ghost use Rattle.odc_syntax.specs.lexical.Texts.{hex_digits};
+ghost use Rattle.odc_syntax.specs.lexical.Value.{short_escape, outside, unescaped, text_value};
 ghost use Rattle.odc_lex.specs.Value.{is_ascii, HasRoom, Reads};
 
 use crate::escape::hex_digits;

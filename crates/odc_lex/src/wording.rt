@@ -1,7 +1,7 @@
 //! What the bytes of a token say beside its kind.
 
 ghost use Rattle.std.specs.Prelude.{◌≡◌};
-ghost use Rattle.odc_syntax.specs.Wording.{name_word, directive_word, text_word, word_of};
+ghost use Rattle.odc_syntax.specs.lexical.Wording.{name_word, directive_word, text_word, word_of};
 
 use crate::value::has_value;
 use odc_syntax::token::{TokenKind, Word};

@@ -18,6 +18,7 @@ use Rattle.odc_lookahead.specs.declared.stop.Stop.{Stop}
 use Rattle.odc_lookahead.specs.declared.stop.Stop.TheVariants as stop
 use Rattle.odc_lookahead.specs.Exact.{size, Clear, Part, Comes, Remains, Found, Broken, TooDeep, Answer, Yes, Syntax, Deep, NoMemory}
 use Rattle.odc_lookahead.specs.Read.{refused, NotExpected}
+use Rattle.odc_lookahead.specs.declared.tokens.Fit.TheVariants as fit
 
 -- these tokens begin with a `.` that no name follows
 pub record AtDot (ts : List Token) : Type 0 where
@@ -74,7 +75,7 @@ seen_to view (Err e) = refused e
 -- behind a `.` that may still be read with what stands before it, the next token tells
 abbrev pub Over : End → List Token → Stop → Type 0
 Over Sure behind e = e ≡ stop.Deep (length behind)
-Over BeforeDot behind e = NotExpected OpenParen false behind e
+Over BeforeDot behind e = NotExpected OpenParen fit.Over behind e
 
 -- the type is an operand, or its end
 abbrev pub ends_operand : Use → Bool

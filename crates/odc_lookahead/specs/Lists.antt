@@ -6,6 +6,8 @@ use Rattle.odc_syntax.specs.declared.token.TokenKind.TheVariants.{Comma}
 use Rattle.odc_syntax.specs.Derives.{StartsWithout}
 use Rattle.odc_lookahead.specs.declared.stop.Stop.{Stop}
 use Rattle.odc_lookahead.specs.declared.stop.Stop.TheVariants as stop
+use Rattle.odc_lookahead.specs.declared.tokens.Fit.{Fit}
+use Rattle.odc_lookahead.specs.declared.tokens.Fit.TheVariants as fit
 
 -- the closing token stands first
 pub record Closed (close : TokenKind) (ts : List Token) (t : Token) (rest : List Token) : Type 0 where
@@ -48,7 +50,7 @@ pub record Stuck (close : TokenKind) (ts : List Token) (left : ℕ) : Type 0 whe
   pub comma : StartsWithout Comma ts
   pub closing : StartsWithout close ts
 
-abbrev pub NotGoing : TokenKind → Bool → List Token → Stop → Type 0
+abbrev pub NotGoing : TokenKind → Fit → List Token → Stop → Type 0
 NotGoing close within ts (stop.Syntax left) = Stuck close ts left
-NotGoing close within ts (stop.Deep left) = Goes close ts left × (within ≡ false)
+NotGoing close within ts (stop.Deep left) = Goes close ts left × (within ≡ fit.Over)
 NotGoing close within ts stop.Memory = ⊥

@@ -17,6 +17,8 @@ use Rattle.odc_syntax.specs.declared.grammar.Mode.{Mode}
 use Rattle.odc_lookahead.specs.Sets.{starts_suffix, continues}
 use Rattle.odc_syntax.specs.declared.grammar.Level.TheVariants.{Or}
 use Rattle.odc_lookahead.specs.Exact.{Answer, Yes, Syntax, Deep, NoMemory}
+use Rattle.odc_lookahead.specs.declared.tokens.Fit.{Fit}
+use Rattle.odc_lookahead.specs.declared.tokens.Fit.TheVariants as fit
 
 abbrev pub refused : {V : Type 0} → Stop → Answer V
 refused (stop.Syntax left) = Syntax left
@@ -30,15 +32,15 @@ seen view (Err e) = refused e
 
 -- why a token of this kind is not read from the front: it isn't there, or it is and nothing may follow
 -- what was read before
-pub record IsThere (k : TokenKind) (within : Bool) (ts : List Token) (left : ℕ) : Type 0 where
+pub record IsThere (k : TokenKind) (within : Fit) (ts : List Token) (left : ℕ) : Type 0 where
   pub first : Token
   pub rest : List Token
   pub is : ts ≡ first ∷ rest
   pub kind : first.kind ≡ k
   pub left_is : left ≡ length rest
-  pub over : within ≡ false
+  pub over : within ≡ fit.Over
 
-abbrev pub NotExpected : TokenKind → Bool → List Token → Stop → Type 0
+abbrev pub NotExpected : TokenKind → Fit → List Token → Stop → Type 0
 NotExpected k within ts (stop.Syntax left) = (left ≡ length ts) × StartsWithout k ts
 NotExpected k within ts (stop.Deep left) = IsThere k within ts left
 NotExpected k within ts stop.Memory = ⊥

@@ -145,6 +145,14 @@ nothing_continues k = false
 abbrev pub continues_item : Level → Mode → TokenKind → Bool
 continues_item l m k = starts_suffix m k || has_rank_from (suc (rank l)) (operator_of k)
 
+-- the level of what stands between the operators of a level, unless that is one operand
+abbrev pub tighter : Level → Option Level
+tighter level.Or = Some level.And
+tighter level.And = Some level.Comparison
+tighter level.Comparison = Some level.Sum
+tighter level.Sum = Some level.Product
+tighter level.Product = None
+
 -- how much the functions that read a level may still call before they read a token
 abbrev pub weight : Level → ℕ
 weight level.Or = 15

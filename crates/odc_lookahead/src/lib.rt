@@ -19,8 +19,6 @@ pub mod shape;
 pub mod statement_form;
 pub mod stop;
 pub mod suffix;
-#[cfg(test)]
-mod tests;
 pub mod tokens;
 pub mod type_form;
 pub mod unary;

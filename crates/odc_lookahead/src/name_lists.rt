@@ -6,13 +6,13 @@ ghost use Rattle.odc_syntax.specs.declared.token.TokenKind.TheVariants as kind;
 ghost use Rattle.odc_syntax.specs.declared.token.Word.TheVariants as word;
 ghost use Rattle.odc_lookahead.specs.Exact.{Exact};
 ghost use Rattle.odc_lookahead.specs.ParamForms.{Front};
-ghost use Rattle.odc_lookahead.specs.Runs.{Declares, Undeclared};
+ghost use Rattle.odc_lookahead.specs.stmts.Runs.{Declares, Undeclared};
 ghost use Rattle.odc_lookahead.specs.Sets.{nothing_continues};
 ghost use Rattle.odc_lookahead.specs.TypeParts.{names_line, named_by};
 
 use crate::shape::strip_dollar;
 use crate::stop::Stop;
-use crate::tokens::{expect, strip};
+use crate::tokens::{Fit, expect, strip};
 use odc_syntax::grammar::Use;
 use odc_syntax::token::{Token, TokenKind, Word};
 use std::alloc::{AllocError, Global};
@@ -35,7 +35,7 @@ pub fn names<'a>(
         list = push(list, name)?;
         match strip(behind, TokenKind::Comma) {
             Some((_comma, after)) => rest = after,
-            None => match expect(behind, TokenKind::Colon, true) {
+            None => match expect(behind, TokenKind::Colon, Fit::Within) {
                 Ok((colon, after)) => return Ok((list, colon, after)),
                 Err(error) => return Err(error),
             },

@@ -1,10 +1,10 @@
 //! Which operators tokens are.
 
-ghost use Rattle.std.specs.Prelude.{◌≡◌, ◌∷◌, true, Some, IfSome, IfNone, ◌↔◌, IsTrue};
+ghost use Rattle.std.specs.Prelude.{◌≡◌, ◌∷◌, ◌+◌, ◌<◌, true, Some, IfSome, IfNone, ◌↔◌, IsTrue};
 ghost use Rattle.odc_syntax.specs.Grammar.{later};
 ghost use Rattle.odc_syntax.specs.declared.grammar.Level.TheVariants as level;
 ghost use Rattle.odc_syntax.specs.Operators.{prefix_of, operator_of, level_of};
-ghost use Rattle.odc_lookahead.specs.Sets.{continues, takes_braces};
+ghost use Rattle.odc_lookahead.specs.Sets.{continues, takes_braces, tighter, weight};
 ghost use Rattle.odc_lookahead.specs.Read.{NoOperator, NothingGoesOn};
 
 use crate::suffix::starts_suffix;
@@ -98,6 +98,20 @@ fn level_of(op: BinaryOp) -> Level
         | BinaryOp::AndNot
         | BinaryOp::ShiftLeft
         | BinaryOp::ShiftRight => Level::Product,
+    }
+}
+
+/// The level of what stands between the operators of a level, unless that is one operand.
+pub fn tighter(level: Level) -> Option<Level>
+    ensures is { result ≡ tighter level }
+    ensures lighter { IfSome result (λ l. weight l + 2 < weight level) }
+{
+    match level {
+        Level::Or => Some(Level::And),
+        Level::And => Some(Level::Comparison),
+        Level::Comparison => Some(Level::Sum),
+        Level::Sum => Some(Level::Product),
+        Level::Product => None,
     }
 }
 

@@ -1,8 +1,8 @@
 //! What statements are, by their first token.
 
 ghost use Rattle.std.specs.Prelude.{◌≡◌};
-ghost use Rattle.odc_lookahead.specs.StatementForms.{statement_form};
-ghost use Rattle.odc_lookahead.specs.Runs.{is_labelled};
+ghost use Rattle.odc_lookahead.specs.stmts.StatementForms.{statement_form};
+ghost use Rattle.odc_lookahead.specs.stmts.Runs.{is_labelled};
 
 use odc_syntax::token::{Token, TokenKind, Word};
 

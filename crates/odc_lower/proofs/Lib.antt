@@ -1,23 +1,12 @@
 pub mod Plains
-pub mod Runs
-pub mod Sims
-pub mod Temps
-pub mod Worlds
+-- each form of core code, and what its steps do
+pub mod simulation
 pub mod Procs
-pub mod Exprs
 pub mod Lengths
 pub mod Sizes
 pub mod Lists
 pub mod Emitted
 pub mod Sanity
-pub mod Flows
-pub mod Stmts
-pub mod Pieces
-pub mod Loops
-pub mod Copies
-pub mod Bodies
-pub mod Touching
-pub mod Calls
 pub mod Whole
 pub mod Programs
 pub mod Depths

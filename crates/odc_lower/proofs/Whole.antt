@@ -19,14 +19,14 @@ use Rattle.odc_mid.specs.Tree.{Proc as MidProc, Whole as MidWhole}
 use Rattle.odc_mid.specs.Run.{World as MidWorld, Config, act, world_of, first_config, ending as mid_ending, run_main, mid, returns}
 use Rattle.odc_lower.specs.Plain.{PlainProc, plain_proc, return_step}
 use Rattle.odc_lower.specs.Lowered.{lowered, IsLowered}
-use Rattle.odc_lower.proofs.Runs.{Leads, later}
+use Rattle.odc_lower.proofs.simulation.Runs.{Leads, later}
 use Rattle.odc_lower.proofs.Plains.{acts}
-use Rattle.odc_lower.proofs.Sims.{Frame, stand, IsSane, Sim}
+use Rattle.odc_lower.proofs.simulation.Sims.{Frame, stand, IsSane, Sim}
 use Rattle.odc_lower.proofs.Procs.{AreAlike, found_at}
-use Rattle.odc_lower.proofs.Worlds.{IsFrame, core_world, mid_world}
-use Rattle.odc_lower.proofs.Touching.{or_either, and_second}
-use Rattle.odc_lower.proofs.Flows.{Answers}
-use Rattle.odc_lower.proofs.Calls.{IsReady, frame_in, frame_ready, body_sim, calls_are_followed}
+use Rattle.odc_lower.proofs.simulation.Worlds.{IsFrame, core_world, mid_world}
+use Rattle.odc_lower.proofs.simulation.Touching.{or_either, and_second}
+use Rattle.odc_lower.proofs.simulation.Flows.{Answers}
+use Rattle.odc_lower.proofs.simulation.Calls.{IsReady, frame_in, frame_ready, body_sim, calls_are_followed}
 
 -- ---- the program
 

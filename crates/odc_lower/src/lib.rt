@@ -11,5 +11,3 @@ pub mod lower;
 mod procedure;
 mod size;
 mod statement;
-#[cfg(test)]
-mod tests;

@@ -22,7 +22,7 @@ use Rattle.odc_lookahead.specs.declared.error.ParseError.{ParseError}
 use Rattle.odc_lookahead.specs.declared.error.ParseError.TheVariants.{Fault, Memory}
 use Rattle.odc_lookahead.specs.Exact.{size, Clear, Part, one, Remains, then_, token, Exact, Answer, Found, Yes}
 use Rattle.odc_lookahead.specs.Read.{refused, NotExpected}
-use Rattle.odc_lookahead.specs.StatementSets.{continues_declaration}
+use Rattle.odc_lookahead.specs.stmts.StatementSets.{continues_declaration}
 use Rattle.odc_lookahead.proofs.reading.Opening.{StartsWith, reach_opens}
 use Rattle.odc_lookahead.proofs.reading.Reaching.{along, behind_part}
 use Rattle.odc_lookahead.proofs.reading.Leading.{same_depth, Pending, Led}
@@ -33,6 +33,8 @@ use Rattle.odc_parse.specs.File.{file_of, IsFile, NoFile}
 use Rattle.odc_parse.specs.Read.{starts_item, BeginsItem, nothing_follows, ItemRead, imported, declared, Unread, HeadRead}
 use Rattle.odc_parse.proofs.ItemLemmas.{an_import, a_declaration, more_line, first_led, first_is_refused}
 use Rattle.odc_parse.proofs.PlaceLemmas.{broken_fault, deep_fault, whole_file, left_over_fault}
+use Rattle.odc_lookahead.specs.declared.tokens.Fit.{Fit}
+use Rattle.odc_lookahead.specs.declared.tokens.Fit.TheVariants as fit
 
 -- one production's rest is another's whole
 led_led : {V W : Type 0} {p q : Part V} {cont : TokenKind → Bool} {b : ℕ} {ts rest after : List Token} {f : V → V} {h : Part W} {i : W → V} {n m : ℕ} →
@@ -123,7 +125,7 @@ item_read ts ds n rest v m after led within short (declared t us is k h) =
     (first_led (g.declaration Free) kind.Name a_declaration (continues_declaration Free) t us k v m after refl (shorter_than rest us after t is short) (subst (λ (l : List Token). Found (one (g.declaration Free)) (continues_declaration Free) 200 l v m after) is h)))
 
 -- the semicolon behind it
-pub semicolon_refused : (ts : List Token) (ds : List Decl) (v : tree.Decl) (n : ℕ) (after : List Token) (e : Stop) (within : Bool) → ItemAt ts ds v n after → (within ≡ false → 200 < n) → NotExpected kind.Semicolon within after e →
+pub semicolon_refused : (ts : List Token) (ds : List Decl) (v : tree.Decl) (n : ℕ) (after : List Token) (e : Stop) (within : Fit) → ItemAt ts ds v n after → (within ≡ fit.Over → 200 < n) → NotExpected kind.Semicolon within after e →
     Exact (one g.decls) starts_item 200 ts (refused e)
 semicolon_refused ts ds v n after e within led over h = token_refused kind.Semicolon (one g.decls) e within same_depth led over h
 
@@ -179,14 +181,14 @@ file_start ts =
     led_start 200 file_line file_node (sample.token, (sample.token, (sample.token, tree.no_decls))) (λ c v. tt) (λ c u. g.file_ {p = u.0} {n = u.1.0} {s = u.1.1.0})
     (λ c w p rule s s' ts' r h clear. file_split ts c w.0 w.1 p rule s s' ts' r)
 
-pub package_refused : (ts : List Token) (e : Stop) → NotExpected kind.Package true ts e → Exact (one file_of) starts_item 200 ts (refused e)
-package_refused ts e h = token_refused kind.Package named_line e true same_depth (file_start ts) (λ i. cc) h
+pub package_refused : (ts : List Token) (e : Stop) → NotExpected kind.Package fit.Within ts e → Exact (one file_of) starts_item 200 ts (refused e)
+package_refused ts e h = token_refused kind.Package named_line e fit.Within same_depth (file_start ts) (λ i. cc) h
 
 package_led : (ts us : List Token) (p : Token) → ts ≡ p ∷ us → p.kind ≡ kind.Package → Led (one file_of) starts_item (λ n. n) 200 ts named_line (λ u. file_node (p, u)) 0 us
 package_led ts us p is e = token_read same_depth (file_start ts) (omega arith) is e
 
-pub package_name_refused : (ts us : List Token) (p : Token) (e : Stop) → ts ≡ p ∷ us → p.kind ≡ kind.Package → NotExpected kind.Name true us e → Exact (one file_of) starts_item 200 ts (refused e)
-package_name_refused ts us p e is k h = token_refused kind.Name list_line e true same_depth (package_led ts us p is k) (λ i. cc) h
+pub package_name_refused : (ts us : List Token) (p : Token) (e : Stop) → ts ≡ p ∷ us → p.kind ≡ kind.Package → NotExpected kind.Name fit.Within us e → Exact (one file_of) starts_item 200 ts (refused e)
+package_name_refused ts us p e is k h = token_refused kind.Name list_line e fit.Within same_depth (package_led ts us p is k) (λ i. cc) h
 
 -- `package` and its name
 pub record Headed (ts : List Token) (p n : Token) (rest : List Token) : Type 0 where
@@ -199,8 +201,8 @@ pub record Headed (ts : List Token) (p n : Token) (rest : List Token) : Type 0 w
 named_led : (ts us : List Token) (p n : Token) → Headed ts p n us → Led (one file_of) starts_item (λ n. n) 200 ts list_line (λ u. file_node (p, (n, u))) 0 us
 named_led ts us p n h = token_read same_depth (package_led ts h.behind p h.package_is h.package_kind) (omega arith) h.name_is h.name_kind
 
-pub package_end_refused : (ts us : List Token) (p n : Token) (e : Stop) → Headed ts p n us → NotExpected kind.Semicolon true us e → Exact (one file_of) starts_item 200 ts (refused e)
-package_end_refused ts us p n e headed h = token_refused kind.Semicolon (one g.decls) e true same_depth (named_led ts us p n headed) (λ i. cc) h
+pub package_end_refused : (ts us : List Token) (p n : Token) (e : Stop) → Headed ts p n us → NotExpected kind.Semicolon fit.Within us e → Exact (one file_of) starts_item 200 ts (refused e)
+package_end_refused ts us p n e headed h = token_refused kind.Semicolon (one g.decls) e fit.Within same_depth (named_led ts us p n headed) (λ i. cc) h
 
 list_led : (ts us rest : List Token) (p n x : Token) → Headed ts p n us → us ≡ x ∷ rest → x.kind ≡ kind.Semicolon → Led (one file_of) starts_item (λ n. n) 200 ts (one g.decls) (λ u. file_node (p, (n, (x, u)))) 0 rest
 list_led ts us rest p n x headed is e = token_read same_depth (named_led ts us p n headed) (omega arith) is e
@@ -272,8 +274,8 @@ items_next ts ds es d n m k rest after us t led within short read more is e low 
     subst (λ (j : ℕ). ItemsAt ts es j us) (sym same) (items_again ts ds es d (max n m) after us t (item_read ts ds n rest (decl d) m after led within short read) (omega (arith, within, low)) more is e)
 
 -- its semicolon isn't
-pub items_unclosed : (ts : List Token) (ds : List Decl) (v : tree.Decl) (n m : ℕ) (rest after : List Token) (e f : Stop) (within : Bool) → ItemsAt ts ds n rest → n ≤ 200 → length after < length rest → ItemRead rest (Yes v m after) →
-    (within ≡ false → 200 < m) → NotExpected kind.Semicolon within after e → f ≡ e → Exact (one g.decls) starts_item 200 ts (refused f)
+pub items_unclosed : (ts : List Token) (ds : List Decl) (v : tree.Decl) (n m : ℕ) (rest after : List Token) (e f : Stop) (within : Fit) → ItemsAt ts ds n rest → n ≤ 200 → length after < length rest → ItemRead rest (Yes v m after) →
+    (within ≡ fit.Over → 200 < m) → NotExpected kind.Semicolon within after e → f ≡ e → Exact (one g.decls) starts_item 200 ts (refused f)
 items_unclosed ts ds v n m rest after e f within led low short read over h same =
     because (one g.decls) starts_item ts e f same (semicolon_refused ts ds v (max n m) after e within (item_read ts ds n rest v m after led low short read) (λ i. let k = over i in omega (arith, k)) h)
 

@@ -15,7 +15,7 @@ use Rattle.odc_lookahead.specs.declared.stop.Stop.{Stop}
 use Rattle.odc_lookahead.specs.declared.stop.Stop.TheVariants as stop
 use Rattle.odc_lookahead.specs.Exact.{size, Clear, Part, one, ComesAt, Remains, then_, done, token, Exact, Found, Broken, TooDeep}
 use Rattle.odc_lookahead.specs.Read.{refused, NotExpected}
-use Rattle.odc_lookahead.specs.StatementSets.{continues_declaration}
+use Rattle.odc_lookahead.specs.stmts.StatementSets.{continues_declaration}
 use Rattle.odc_lookahead.proofs.reading.Opening.{reach_opens}
 use Rattle.odc_lookahead.proofs.reading.Reaching.{along, behind_part, behind_token}
 use Rattle.odc_lookahead.proofs.reading.Leading.{one_deeper, same_depth, Pending, Led, led_part, led_done, first_is, without, at_rest}
@@ -24,6 +24,7 @@ use Rattle.odc_lookahead.proofs.expr.SuffixAnswers.{token_clear}
 use Rattle.odc_lookahead.proofs.faults.LawLemmas.{end_clear, at_most}
 use Rattle.odc_lookahead.proofs.reading.Samples as sample
 use Rattle.odc_parse.specs.Read.{starts_item, BeginsItem, nothing_follows, NameRead, there, missing}
+use Rattle.odc_lookahead.specs.declared.tokens.Fit.TheVariants as fit
 
 -- imports
 
@@ -57,8 +58,8 @@ import_start ts =
     led_start 199 import_line import_node (sample.token, (None, (sample.token, tt))) (λ c v. tt) (λ c u. g.import_path {t = u.0} {p = u.1.1.0} {n = u.1.0})
     (λ c w p rule s s' ts' r h clear. import_split ts c w p rule s s' ts' r h clear)
 
-pub import_word_refused : (ts : List Token) (e : Stop) → NotExpected kind.Import true ts e → Exact (one g.import_) nothing_follows 200 ts (refused e)
-import_word_refused ts e h = token_refused kind.Import name_line e true one_deeper (import_start ts) (λ i. cc) h
+pub import_word_refused : (ts : List Token) (e : Stop) → NotExpected kind.Import fit.Within ts e → Exact (one g.import_) nothing_follows 200 ts (refused e)
+import_word_refused ts e h = token_refused kind.Import name_line e fit.Within one_deeper (import_start ts) (λ i. cc) h
 
 abbrev is_name : TokenKind → Bool
 is_name kind.Name = true
@@ -111,8 +112,8 @@ pub import_named : (ts us rest : List Token) (t : Token) (n : Option Token) → 
 import_named ts us rest t n is e name =
     led_part one_deeper (token_read one_deeper (import_start ts) (omega arith) is e) (omega arith) (name_found 199 us n rest name) (λ c u s clear. token_clear is_name kind.Text refl done c u s)
 
-pub import_path_refused : (ts rest : List Token) (t : Token) (n : Option Token) (e : Stop) → NamedAt ts t n rest → NotExpected kind.Text true rest e → Exact (one g.import_) nothing_follows 200 ts (refused e)
-import_path_refused ts rest t n e led h = token_refused kind.Text done e true one_deeper led (λ i. cc) h
+pub import_path_refused : (ts rest : List Token) (t : Token) (n : Option Token) (e : Stop) → NamedAt ts t n rest → NotExpected kind.Text fit.Within rest e → Exact (one g.import_) nothing_follows 200 ts (refused e)
+import_path_refused ts rest t n e led h = token_refused kind.Text done e fit.Within one_deeper led (λ i. cc) h
 
 pub import_answer : (ts us rest : List Token) (t p : Token) (n : Option Token) → NamedAt ts t n us → us ≡ p ∷ rest → p.kind ≡ kind.Text → Found (one g.import_) nothing_follows 200 ts (tree.decl t.at (tree.import n p)) 1 rest
 import_answer ts us rest t p n led is e = led_done one_deeper (token_read one_deeper led (omega arith) is e)

@@ -19,7 +19,7 @@ use Rattle.odc_parse.specs.declared.file.Contents.{Contents}
 use Rattle.odc_syntax.specs.Grammar.{import_, declaration}
 use Rattle.odc_syntax.specs.Derives.{StartsWithout}
 use Rattle.odc_lookahead.specs.Exact.{Answer, Exact, one}
-use Rattle.odc_lookahead.specs.StatementSets.{continues_declaration}
+use Rattle.odc_lookahead.specs.stmts.StatementSets.{continues_declaration}
 
 -- what an import or a declaration begins with
 abbrev pub starts_item : TokenKind → Bool

@@ -9,7 +9,7 @@ ghost use Rattle.odc_parse.specs.Read.{file_view, starts_item, HeadRead};
 use crate::items::items;
 use odc_lookahead::read::Read;
 use odc_lookahead::stop::Stop;
-use odc_lookahead::tokens::expect;
+use odc_lookahead::tokens::{Fit, expect};
 use odc_syntax::token::{Token, TokenKind};
 use odc_syntax::tree::Decl;
 use std::alloc::Global;
@@ -43,8 +43,8 @@ fn head(tokens: &[Token]) -> Result<(Token, &[Token]), Stop>
     ensures read { IfOk result (λ r. HeadRead tokens.now r.0 r.1.now) }
     ensures refused { IfErr result (λ e. Exact (one file_of) starts_item 200 tokens.now (refused e)) }
 {
-    let (_package, behind) = expect(tokens, TokenKind::Package, true)?;
-    let (name, after) = expect(behind, TokenKind::Name, true)?;
-    let (_semicolon, rest) = expect(after, TokenKind::Semicolon, true)?;
+    let (_package, behind) = expect(tokens, TokenKind::Package, Fit::Within)?;
+    let (name, after) = expect(behind, TokenKind::Name, Fit::Within)?;
+    let (_semicolon, rest) = expect(after, TokenKind::Semicolon, Fit::Within)?;
     Ok((name, rest))
 }

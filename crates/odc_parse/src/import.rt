@@ -10,7 +10,7 @@ ghost use Rattle.odc_parse.specs.Read.{NameRead, nothing_follows};
 
 use odc_lookahead::read::Read;
 use odc_lookahead::stop::Stop;
-use odc_lookahead::tokens::{expect, strip};
+use odc_lookahead::tokens::{Fit, expect, strip};
 use odc_syntax::token::{Token, TokenKind};
 use odc_syntax::tree::{Decl, DeclKind};
 use odc_tree::node::decl_node;
@@ -22,9 +22,9 @@ pub fn import<'a>(alloc: Global, tokens: &'a [Token]) -> Result<Read<'a, Decl>, 
     ensures shorter { IfOk result (λ r. length r.rest.now < length tokens.now) }
     ensures low { IfOk result (λ r. r.height ≤ 1) }
 {
-    let (word, behind) = expect(tokens, TokenKind::Import, true)?;
+    let (word, behind) = expect(tokens, TokenKind::Import, Fit::Within)?;
     let (name, behind_name) = optional_name(behind);
-    let (path, rest) = expect(behind_name, TokenKind::Text, true)?;
+    let (path, rest) = expect(behind_name, TokenKind::Text, Fit::Within)?;
     Ok(Read {
         tree: import_of(alloc, word, name, path)?,
         height: 1,

@@ -16,13 +16,13 @@ use Rattle.odc_lookahead.specs.declared.stop.Stop.TheVariants as stop
 use Rattle.odc_parse_expr.specs.Blocks.{BodyOver}
 use Rattle.odc_lookahead.specs.Exact.{Part, one, Exact, Found, Broken, TooDeep}
 use Rattle.odc_parse_expr.specs.LoopForms.{BodyFirst, BeginsBody, ConditionRead, none, some}
-use Rattle.odc_lookahead.specs.LoopStarts.{Ranged}
-use Rattle.odc_lookahead.specs.Loops.{Steps, steps_line, after_line}
+use Rattle.odc_lookahead.specs.stmts.LoopStarts.{Ranged}
+use Rattle.odc_lookahead.specs.stmts.Loops.{Steps, steps_line, after_line}
 use Rattle.odc_lookahead.specs.Read.{refused, NotExpected}
 use Rattle.odc_lookahead.specs.Sets.{continues}
-use Rattle.odc_lookahead.specs.Statements.{labelled_part}
-use Rattle.odc_lookahead.specs.StatementSets.{continues_simple, continues_statement}
-use Rattle.odc_lookahead.specs.SwitchSets.{continues_span}
+use Rattle.odc_lookahead.specs.stmts.Statements.{labelled_part}
+use Rattle.odc_lookahead.specs.stmts.StatementSets.{continues_simple, continues_statement}
+use Rattle.odc_lookahead.specs.stmts.SwitchSets.{continues_span}
 use Rattle.odc_lookahead.proofs.reading.Opening.{reach_opens, is_body}
 use Rattle.odc_lookahead.proofs.reading.Leading.{same_depth, Led}
 use Rattle.odc_lookahead.proofs.reading.Answering.{led_rest, led_rest_refused, led_stuck, answer_is}
@@ -32,6 +32,8 @@ use Rattle.odc_lookahead.proofs.loops.AfterLemmas.{body_over, after_refused, aft
 use Rattle.odc_lookahead.proofs.loops.LoopClauses.{no_body}
 use Rattle.odc_lookahead.proofs.loops.RangeLemmas.{OverAt, over_at, over_span_refused, OverRead, over_read}
 use Rattle.odc_lookahead.proofs.reading.Samples as sample
+use Rattle.odc_lookahead.specs.declared.tokens.Fit.{Fit}
+use Rattle.odc_lookahead.specs.declared.tokens.Fit.TheVariants as fit
 
 -- a body stands first
 body_kind : (k : TokenKind) → (k ≡ kind.OpenBrace) ⊎ (k ≡ kind.Do) → is_body k ≡ true
@@ -118,7 +120,7 @@ condition_led b ts e n rest (some v m after found shorter) = subst (λ (k : ℕ)
     zero_max : max 0 m ≡ m
     zero_max = omega arith
 
-pub condition_unclosed : (b : ℕ) (ts : List Token) (e : MaybeExpr) (n : ℕ) (rest : List Token) (s : Stop) (within : Bool) → ConditionRead b ts e n rest → (within ≡ false → b < n) → NotExpected kind.Semicolon within rest s → Exact steps_line continues_statement b ts (refused s)
+pub condition_unclosed : (b : ℕ) (ts : List Token) (e : MaybeExpr) (n : ℕ) (rest : List Token) (s : Stop) (within : Fit) → ConditionRead b ts e n rest → (within ≡ fit.Over → b < n) → NotExpected kind.Semicolon within rest s → Exact steps_line continues_statement b ts (refused s)
 condition_unclosed b ts e n rest s within z over h = steps_unclosed (λ u. (e, u)) n rest s within (condition_led b ts e n rest z) over h
 
 pub condition_end : (b : ℕ) (ts : List Token) (e : MaybeExpr) (n : ℕ) (rest : List Token) (t : Token) (us : List Token) (u : MaybeStmt × Stmts) (m top : ℕ) (after : List Token) → ConditionRead b ts e n rest → n ≤ b → rest ≡ t ∷ us → t.kind ≡ kind.Semicolon → Found after_line continues_statement b us u m after → top ≡ max n m →

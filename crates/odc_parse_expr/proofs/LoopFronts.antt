@@ -8,19 +8,20 @@ use Rattle.odc_syntax.specs.declared.grammar.Level.TheVariants.{Or}
 use Rattle.odc_syntax.specs.declared.tree.RangeNames.{RangeNames}
 use Rattle.odc_syntax.specs.Derives.{StartsWithout}
 use Rattle.odc_syntax.specs.Grammar as g
+use Rattle.odc_parse_expr.specs.declared.loops.Sign.{Sign}
 use Rattle.odc_parse_expr.specs.declared.loops.Front.{Front}
 use Rattle.odc_parse_expr.specs.declared.loops.Front.TheVariants as front
 use Rattle.odc_lookahead.specs.declared.stop.Stop.{Stop}
 use Rattle.odc_lookahead.specs.declared.stop.Stop.TheVariants as stop
 use Rattle.odc_lookahead.specs.Exact.{one, Exact}
-use Rattle.odc_parse_expr.specs.LoopForms.{BodyFirst, FrontIs, LoopStart}
-use Rattle.odc_lookahead.specs.LoopStarts as start
-use Rattle.odc_lookahead.specs.LoopStarts.{Signed, plain, signed, Ranged, OneName, MoreNames, Unranged, asks, cost, list_cost, OneOver, MoreOver, NameBefore, NoNameBefore, EndsOne, goes_one}
+use Rattle.odc_parse_expr.specs.LoopForms.{refers, BodyFirst, FrontIs, LoopStart}
+use Rattle.odc_lookahead.specs.stmts.LoopStarts as start
+use Rattle.odc_lookahead.specs.stmts.LoopStarts.{Signed, plain, signed, Ranged, OneName, MoreNames, Unranged, asks, cost, list_cost, OneOver, MoreOver, NameBefore, NoNameBefore, EndsOne, goes_one}
 use Rattle.odc_lookahead.specs.Read.{refused}
-use Rattle.odc_lookahead.specs.RunBounds.{LastOver}
+use Rattle.odc_lookahead.specs.stmts.RunBounds.{LastOver}
 use Rattle.odc_lookahead.specs.Sets.{starts_suffix, continues}
-use Rattle.odc_lookahead.specs.Statements.{labelled_part}
-use Rattle.odc_lookahead.specs.StatementSets.{continues_statement}
+use Rattle.odc_lookahead.specs.stmts.Statements.{labelled_part}
+use Rattle.odc_lookahead.specs.stmts.StatementSets.{continues_statement}
 use Rattle.odc_lookahead.proofs.loops.LoopLemmas.{for_at}
 use Rattle.odc_lookahead.proofs.loops.LoopBounds as low
 
@@ -44,11 +45,11 @@ pub front_range : (ts rest : List Token) (f : Front) (names : RangeNames) → f 
 front_range ts rest f names e z = front_is ts rest f (front.Range names) e z
 
 -- too few levels are left
-pub one_low : (b : ℕ) (t : Token) (ts rest : List Token) (f : Front) (r : Bool) (e : Stop) → Clauses t ts → f ≡ front.One r → FrontIs ts f rest → b < cost r → OneOver r rest e → Exact (one labelled_part) continues_statement b (t ∷ ts) (refused e)
-one_low b t ts rest f r e c is z few o = let y = front_is ts rest f (front.One r) is z in low.one_over b (t ∷ ts) t.at ts rest r e (front_at b c (start.one_name r rest y)) y few o
+pub one_low : (b : ℕ) (t : Token) (ts rest : List Token) (f : Front) (r : Sign) (e : Stop) → Clauses t ts → f ≡ front.One r → FrontIs ts f rest → b < cost (refers r) → OneOver (refers r) rest e → Exact (one labelled_part) continues_statement b (t ∷ ts) (refused e)
+one_low b t ts rest f r e c is z few o = let y = front_is ts rest f (front.One r) is z in low.one_over b (t ∷ ts) t.at ts rest (refers r) e (front_at b c (start.one_name (refers r) rest y)) y few o
 
-pub more_low : (b : ℕ) (t : Token) (ts last : List Token) (f : Front) (r : Bool) (e : Stop) → Clauses t ts → f ≡ front.More r → FrontIs ts f last → b < list_cost r → MoreOver r last e → Exact (one labelled_part) continues_statement b (t ∷ ts) (refused e)
-more_low b t ts last f r e c is z few o = low.more_over b (t ∷ ts) t.at ts last r e (for_at b (t ∷ ts) t ts refl c.is_for) c.no_brace c.no_do c.no_semicolon (front_is ts last f (front.More r) is z) few o
+pub more_low : (b : ℕ) (t : Token) (ts last : List Token) (f : Front) (r : Sign) (e : Stop) → Clauses t ts → f ≡ front.More r → FrontIs ts f last → b < list_cost (refers r) → MoreOver (refers r) last e → Exact (one labelled_part) continues_statement b (t ∷ ts) (refused e)
+more_low b t ts last f r e c is z few o = low.more_over b (t ∷ ts) t.at ts last (refers r) e (for_at b (t ∷ ts) t ts refl c.is_for) c.no_brace c.no_do c.no_semicolon (front_is ts last f (front.More r) is z) few o
 
 pub address_low : (b : ℕ) (t : Token) (ts rest : List Token) (f : Front) (e : Stop) → b ≡ 0 → Clauses t ts → f ≡ front.Address → FrontIs ts f rest → Exact (one (g.unary Header)) (starts_suffix Header) 0 rest (refused e) → Exact (one labelled_part) continues_statement b (t ∷ ts) (refused e)
 address_low b t ts rest f e zero' c is z h =
@@ -68,8 +69,8 @@ cost_few : (r : Bool) → cost r ≤ 2
 cost_few true = omega arith
 cost_few false = omega arith
 
-pub one_reads : {X : Type 0} (b : ℕ) (t : Token) (ts rest : List Token) (f : Front) (r : Bool) → Clauses t ts → f ≡ front.One r → FrontIs ts f rest → cost r ≤ b → Reads b t ts X → X
-one_reads b t ts rest f r c is z enough reads = reads rest (starting c (start.one_name r rest (front_is ts rest f (front.One r) is z))) enough (cost_few r)
+pub one_reads : {X : Type 0} (b : ℕ) (t : Token) (ts rest : List Token) (f : Front) (r : Sign) → Clauses t ts → f ≡ front.One r → FrontIs ts f rest → cost (refers r) ≤ b → Reads b t ts X → X
+one_reads b t ts rest f r c is z enough reads = reads rest (starting c (start.one_name (refers r) rest (front_is ts rest f (front.One r) is z))) enough (cost_few (refers r))
 
 pub address_reads : {X : Type 0} (b : ℕ) (t : Token) (ts rest : List Token) (f : Front) → Clauses t ts → f ≡ front.Address → FrontIs ts f rest → 0 < b → Reads b t ts X → X
 address_reads b t ts rest f c is z enough reads = let y = front_is ts rest f front.Address is z in reads rest (starting c (start.address rest y.0 y.1)) enough (omega arith)
@@ -99,18 +100,18 @@ more_at : {r : Bool} {ts : List Token} (last : List Token) → MoreNames r ts la
 more_at {r} [] z = record { place = []; unranged = start.more r [] z tt; asks_is = refl }
 more_at (t ∷ us) z = place_by t us z (is_name t.kind)
 
-pub more_reads : {X : Type 0} (b : ℕ) (t : Token) (ts last : List Token) (f : Front) (r : Bool) → Clauses t ts → f ≡ front.More r → FrontIs ts f last → r ≡ false → list_cost r ≤ b → Reads b t ts X → X
+pub more_reads : {X : Type 0} (b : ℕ) (t : Token) (ts last : List Token) (f : Front) (r : Sign) → Clauses t ts → f ≡ front.More r → FrontIs ts f last → refers r ≡ false → list_cost (refers r) ≤ b → Reads b t ts X → X
 more_reads b t ts last f r c is z plain' enough reads =
     let y = more_at last (front_is ts last f (front.More r) is z) in
     let e = y.asks_is in
-    let k : list_cost r ≡ 1 = ap list_cost plain' in
+    let k : list_cost (refers r) ≡ 1 = ap list_cost plain' in
     reads y.place (starting c y.unranged) (omega (arith, e, enough)) (omega (arith, e, k))
 
-pub list_reads : {X : Type 0} (b : ℕ) (t : Token) (ts last : List Token) (f : Front) (r : Bool) → Clauses t ts → f ≡ front.More r → FrontIs ts f last → r ≡ true → list_cost r ≤ b → ((place last : List Token) → LoopStart t ts place → MoreNames true ts last → 2 < b → X) → X
+pub list_reads : {X : Type 0} (b : ℕ) (t : Token) (ts last : List Token) (f : Front) (r : Sign) → Clauses t ts → f ≡ front.More r → FrontIs ts f last → refers r ≡ true → list_cost (refers r) ≤ b → ((place last : List Token) → LoopStart t ts place → MoreNames true ts last → 2 < b → X) → X
 list_reads b t ts last f r c is z sign enough reads =
     let m = front_is ts last f (front.More r) is z in
     let y = more_at last m in
-    let k : list_cost r ≡ 3 = ap list_cost sign in
+    let k : list_cost (refers r) ≡ 3 = ap list_cost sign in
     reads y.place last (starting c y.unranged) (subst (λ (x : Bool). MoreNames x ts last) sign m) (omega (arith, k, enough))
 
 -- what `front` and its parts find

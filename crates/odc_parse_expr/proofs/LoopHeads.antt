@@ -13,21 +13,21 @@ use Rattle.odc_syntax.specs.Derives.{Reach, here, read, write, StartsWithout}
 use Rattle.odc_lookahead.specs.declared.stop.Stop.{Stop}
 use Rattle.odc_lookahead.specs.declared.stop.Stop.TheVariants as stop
 use Rattle.odc_parse_expr.specs.Blocks.{BodyOver}
-use Rattle.odc_lookahead.specs.Clauses.{Clause, declared, assigned, alone, clause_then}
+use Rattle.odc_lookahead.specs.stmts.Clauses.{Clause, declared, assigned, alone, clause_then}
 use Rattle.odc_lookahead.specs.Exact.{size, Clear, Part, one, then_, token, Exact, Answer, Yes, Found, TooDeep}
-use Rattle.odc_lookahead.specs.Headers as header
-use Rattle.odc_lookahead.specs.Headers.{GoesOn, ClosedFrom}
+use Rattle.odc_lookahead.specs.stmts.Headers as header
+use Rattle.odc_lookahead.specs.stmts.Headers.{GoesOn, ClosedFrom}
 use Rattle.odc_parse_expr.specs.LoopForms.{LoopStart, LoopClosed, from, signs, LoopCondition, closed, evaluated}
-use Rattle.odc_lookahead.specs.LoopStarts as start
-use Rattle.odc_lookahead.specs.LoopStarts.{Signed, plain, signed, MoreNames, Unranged, asks, cost, list_cost}
-use Rattle.odc_lookahead.specs.Loops.{Steps, body_alone, steps_line}
+use Rattle.odc_lookahead.specs.stmts.LoopStarts as start
+use Rattle.odc_lookahead.specs.stmts.LoopStarts.{Signed, plain, signed, MoreNames, Unranged, asks, cost, list_cost}
+use Rattle.odc_lookahead.specs.stmts.Loops.{Steps, body_alone, steps_line}
 use Rattle.odc_lookahead.specs.Read.{refused, NotExpected}
-use Rattle.odc_lookahead.specs.RunBounds.{RunOver}
-use Rattle.odc_lookahead.specs.Runs.{Declares}
-use Rattle.odc_lookahead.specs.Runs as runs
+use Rattle.odc_lookahead.specs.stmts.RunBounds.{RunOver}
+use Rattle.odc_lookahead.specs.stmts.Runs.{Declares}
+use Rattle.odc_lookahead.specs.stmts.Runs as runs
 use Rattle.odc_lookahead.specs.Sets.{continues}
-use Rattle.odc_lookahead.specs.Statements.{labelled_part}
-use Rattle.odc_lookahead.specs.StatementSets.{continues_simple, continues_declaration, continues_statement, continues_head, continues_clause, EndsClause}
+use Rattle.odc_lookahead.specs.stmts.Statements.{labelled_part}
+use Rattle.odc_lookahead.specs.stmts.StatementSets.{continues_simple, continues_declaration, continues_statement, continues_head, continues_clause, EndsClause}
 use Rattle.odc_lookahead.proofs.reading.Opening.{StartsWith}
 use Rattle.odc_lookahead.proofs.reading.Reaching.{along}
 use Rattle.odc_lookahead.proofs.reading.Leading.{same_depth, Led}
@@ -48,6 +48,8 @@ use Rattle.odc_lookahead.proofs.headers.FrontLemmas.{value_of, front_found, fron
 use Rattle.odc_lookahead.proofs.loops.LoopClauses.{ClausesLed, clauses_led, clause_node, run_far, declares_far, single_limit}
 use Rattle.odc_parse_expr.proofs.LoopExits.{body_is_over}
 use Rattle.odc_lookahead.proofs.reading.Samples as sample
+use Rattle.odc_lookahead.specs.declared.tokens.Fit.{Fit}
+use Rattle.odc_lookahead.specs.declared.tokens.Fit.TheVariants as fit
 
 -- where a loop begins
 pub start_led : {t : Token} {ts place : List Token} (b : ℕ) → LoopStart t ts place → ClausesLed b (t ∷ ts) t.at ts place
@@ -223,7 +225,7 @@ closed_led b t ts place s _ _ _ (signs last x n rest some z found) =
     zero_max : max 0 n ≡ n
     zero_max = omega arith
 
-pub loop_unclosed : (b : ℕ) (t : Token) (ts place : List Token) (s : LoopStart t ts place) (h : HeaderTree) (n : ℕ) (rest : List Token) (e : Stop) (within : Bool) → LoopClosed b ts place s.unranged h n rest → (within ≡ false → b < n) → NotExpected kind.Semicolon within rest e →
+pub loop_unclosed : (b : ℕ) (t : Token) (ts place : List Token) (s : LoopStart t ts place) (h : HeaderTree) (n : ℕ) (rest : List Token) (e : Stop) (within : Fit) → LoopClosed b ts place s.unranged h n rest → (within ≡ fit.Over → b < n) → NotExpected kind.Semicolon within rest e →
     Exact (one labelled_part) continues_statement b (t ∷ ts) (refused e)
 loop_unclosed b t ts place s h n rest e within z over k = token_refused kind.Semicolon steps_line e within same_depth (closed_led b t ts place s h n rest z) over k
 
@@ -305,8 +307,8 @@ pub simple_deeper : (b d : ℕ) (ts : List Token) (a : Answer Stmt) → b ≡ su
 simple_deeper b d ts a e h = subst (λ (k : ℕ). Exact (one (g.simple Header)) (continues_simple Header) k ts a) (sym e) h
 
 -- what is not within a bound is beyond it
-pub not_within : (n b : ℕ) (f : Bool) → (n ≤ b → f ≡ true) → f ≡ false → b < n
-not_within n b f within off = lt_of_not-le (λ h. let bad : true ≡ false = sym (within h) ∙ off in cc)
+pub not_within : (n b : ℕ) (f : Fit) → (n ≤ b → f ≡ fit.Within) → f ≡ fit.Over → b < n
+not_within n b f within off = lt_of_not-le (λ h. let bad : fit.Within ≡ fit.Over = sym (within h) ∙ off in cc)
 
 -- the same header and height, as they are built
 pub evaluated_is : (b : ℕ) (ts place : List Token) (z : Unranged ts place) (h k : HeaderTree) (n m : ℕ) (us : List Token) → h ≡ k → suc n ≡ m → LoopCondition b ts place z h (suc n) us → LoopCondition b ts place z k m us

@@ -17,9 +17,9 @@ use Rattle.odc_parse_expr.specs.Blocks.{BodyOver}
 use Rattle.odc_parse_expr.specs.Conditionals.{IfRead}
 use Rattle.odc_lookahead.specs.Exact.{one, then_, done, Exact, Answer, Yes, Syntax, Deep, NoMemory, Broken, TooDeep}
 use Rattle.odc_lookahead.specs.Read.{refused}
-use Rattle.odc_lookahead.specs.Runs.{Undeclared}
+use Rattle.odc_lookahead.specs.stmts.Runs.{Undeclared}
 use Rattle.odc_lookahead.specs.Sets.{nothing_continues}
-use Rattle.odc_lookahead.specs.StatementSets.{continues_simple, continues_statement}
+use Rattle.odc_lookahead.specs.stmts.StatementSets.{continues_simple, continues_statement}
 use Rattle.odc_lookahead.proofs.reading.Opening.{reach_opens, First, is_body, is_brace}
 use Rattle.odc_lookahead.proofs.reading.Answering.{stuck_broken, led_stuck}
 use Rattle.odc_lookahead.proofs.stmts.NamedLemmas.{undeclared_answer, undeclared_refused}

@@ -9,11 +9,11 @@ use Rattle.odc_syntax.specs.View.{expr, header_of}
 use Rattle.odc_parse_expr.specs.declared.conditional.Head.{Head}
 use Rattle.odc_parse_expr.specs.declared.runs.NamesEnd.{NamesEnd}
 use Rattle.odc_parse_expr.specs.declared.runs.NamesEnd.TheVariants as names
-use Rattle.odc_lookahead.specs.BodyParts.{head_line}
+use Rattle.odc_lookahead.specs.stmts.BodyParts.{head_line}
 use Rattle.odc_lookahead.specs.Exact.{Found, one}
-use Rattle.odc_lookahead.specs.Headers.{Single, Listed}
-use Rattle.odc_lookahead.specs.Runs.{Declares}
-use Rattle.odc_lookahead.specs.StatementSets.{continues_statement, continues_head}
+use Rattle.odc_lookahead.specs.stmts.Headers.{Single, Listed}
+use Rattle.odc_lookahead.specs.stmts.Runs.{Declares}
+use Rattle.odc_lookahead.specs.stmts.StatementSets.{continues_statement, continues_head}
 
 abbrev pub head_of : Head → tree.Header × (tree.Expr × Unit {0})
 head_of h = (header_of h.header, (expr h.condition, tt))

@@ -11,16 +11,18 @@ use Rattle.odc_syntax.specs.Tree as tree
 use Rattle.odc_syntax.specs.View.{expr, stmts, maybe_expr, maybe_stmt, header_of, span_of}
 use Rattle.odc_parse_expr.specs.declared.loops.Front.{Front}
 use Rattle.odc_parse_expr.specs.declared.loops.Front.TheVariants as front
+use Rattle.odc_parse_expr.specs.declared.loops.Sign.{Sign}
+use Rattle.odc_parse_expr.specs.declared.loops.Sign.TheVariants as sign
 use Rattle.odc_parse_expr.specs.declared.loops.Loop.{Loop}
 use Rattle.odc_parse_expr.specs.declared.loops.Loop.TheVariants as l
 use Rattle.odc_parse_expr.specs.declared.loops.LoopEnd.{LoopEnd}
 use Rattle.odc_parse_expr.specs.declared.loops.LoopSteps.{LoopSteps}
 use Rattle.odc_lookahead.specs.Exact.{Found, Broken, one}
-use Rattle.odc_lookahead.specs.Headers.{ClosedFrom, HeadExpression}
-use Rattle.odc_lookahead.specs.Loops.{Steps}
-use Rattle.odc_lookahead.specs.LoopStarts.{Signed, Ranged, OneName, MoreNames, Unranged, asks}
+use Rattle.odc_lookahead.specs.stmts.Headers.{ClosedFrom, HeadExpression}
+use Rattle.odc_lookahead.specs.stmts.Loops.{Steps}
+use Rattle.odc_lookahead.specs.stmts.LoopStarts.{Signed, Ranged, OneName, MoreNames, Unranged, asks}
 use Rattle.odc_lookahead.specs.Sets.{continues}
-use Rattle.odc_lookahead.specs.StatementSets.{continues_simple}
+use Rattle.odc_lookahead.specs.stmts.StatementSets.{continues_simple}
 
 abbrev pub end_of : LoopEnd → tree.MaybeStmt × tree.Stmts
 end_of e = (maybe_stmt e.step, stmts e.body.items)
@@ -45,11 +47,16 @@ abbrev pub BeginsBody : List Token → Bool → Type 0
 BeginsBody ts true = BodyFirst ts
 BeginsBody ts false = StartsWithout kind.OpenBrace ts × StartsWithout kind.Do ts
 
+-- whether it is `&`
+abbrev pub refers : Sign → Bool
+refers sign.Plain = false
+refers sign.Reference = true
+
 -- what stands behind `for`, as far as variables go
 abbrev pub FrontIs : List Token → Front → List Token → Type 0
 FrontIs ts (front.Range names) rest = Ranged ts names rest
-FrontIs ts (front.One r) rest = OneName r ts rest
-FrontIs ts (front.More r) last = MoreNames r ts last
+FrontIs ts (front.One s) rest = OneName (refers s) ts rest
+FrontIs ts (front.More s) last = MoreNames (refers s) ts last
 FrontIs ts front.Address rest = Signed true ts rest × StartsWithout kind.Name rest
 FrontIs ts front.Other rest = StartsWithout kind.Name ts × StartsWithout kind.Ampersand ts
 

@@ -7,8 +7,8 @@ use Rattle.odc_syntax.specs.Tree as tree
 use Rattle.odc_syntax.specs.View.{expr, maybe_expr, header_of, spans, cases}
 use Rattle.odc_parse_expr.specs.declared.switches.SwitchHead.{SwitchHead}
 use Rattle.odc_parse_expr.specs.declared.switches.SwitchHead.TheVariants as head
-use Rattle.odc_lookahead.specs.SwitchParts as part
-use Rattle.odc_lookahead.specs.SwitchParts.{by_value, by_type}
+use Rattle.odc_lookahead.specs.stmts.SwitchParts as part
+use Rattle.odc_lookahead.specs.stmts.SwitchParts.{by_value, by_type}
 
 abbrev pub span_list : Vec Span Global → tree.Spans
 span_list xs = spans xs.items

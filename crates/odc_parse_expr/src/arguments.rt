@@ -10,6 +10,7 @@ ghost use Rattle.odc_lookahead.specs.Sets.{continues_argument, nothing_continues
 ghost use Rattle.odc_parse_expr.specs.Suffixes.{argument, argument_list};
 
 use crate::binary::level;
+use crate::lists::items_up_to;
 use odc_lookahead::lists::after_item;
 use odc_lookahead::operators::going_on;
 use odc_lookahead::read::{Closed, Read};
@@ -48,33 +49,16 @@ pub fn arguments<'a>(
     }
     let mut height: u16 = 0;
     let mut rest = tokens;
-    'items: loop {
-        let Read {
-            tree: item,
-            height: n,
-            rest: after,
-        } = match argument(alloc, rest, depth) {
-            Ok(read) => read,
-            Err(error) => return Err(discard_args(args, error)),
-        };
-        args = push_arg(args, item)?;
-        height = height.max(n);
-        let (end, behind) = match after_item(after, close, within(height, depth)) {
-            Ok(found) => found,
-            Err(error) => return Err(discard_args(args, error)),
-        };
-        match end {
-            Some(token) => return Ok(Read {
-                tree: Closed {
-                    part: args,
-                    close: token,
-                },
-                height,
-                rest: behind,
-            }),
-            None => rest = behind,
-        }
-    }
+    items_up_to!(
+        close,
+        depth,
+        args,
+        height,
+        rest,
+        item = argument(alloc, rest, depth),
+        push_arg(args, item)?,
+        discard_args
+    )
 }
 
 /// An argument: an expression, which may stand behind a name and `=`.

@@ -20,7 +20,7 @@ use odc_lookahead::end::{End, at_end};
 use odc_lookahead::read::{Closed, Read, ReadTo};
 use odc_lookahead::shape::{Shape, counts, strip_dollar};
 use odc_lookahead::stop::Stop;
-use odc_lookahead::tokens::{expect, strip, within};
+use odc_lookahead::tokens::{Fit, expect, strip, within};
 use odc_nodes::type_nodes;
 use odc_syntax::grammar::{Level, Mode, Use};
 use odc_syntax::token::{Token, TokenKind};
@@ -106,7 +106,7 @@ fn counted<'a>(
     ensures shorter { IfOk result (λ r. prelude.length r.rest.now ≤ prelude.length tokens.now) }
     ensures low { IfOk result (λ r. r.height ≤ depth + 1) }
 {
-    let (_close, inner) = match expect(tokens, TokenKind::CloseBracket, true) {
+    let (_close, inner) = match expect(tokens, TokenKind::CloseBracket, Fit::Within) {
         Ok(found) => found,
         Err(error) => return Err(error),
     };
@@ -152,7 +152,7 @@ fn length<'a>(
             rest,
         }),
         None => match strip(tokens, TokenKind::Dynamic) {
-            Some((_dynamic, behind)) => match expect(behind, TokenKind::CloseBracket, true) {
+            Some((_dynamic, behind)) => match expect(behind, TokenKind::CloseBracket, Fit::Within) {
                 Ok((close, rest)) => Ok(Read {
                     tree: Closed {
                         part: Length::Dynamic,
@@ -182,11 +182,11 @@ fn parametric<'a>(
     ensures shorter { IfOk result (λ r. prelude.length r.rest.now ≤ prelude.length behind.now) }
     ensures low { IfOk result (λ r. r.height ≤ 0) }
 {
-    let (name, after) = match expect(behind, TokenKind::Name, true) {
+    let (name, after) = match expect(behind, TokenKind::Name, Fit::Within) {
         Ok(found) => found,
         Err(error) => return Err(error),
     };
-    match expect(after, TokenKind::CloseBracket, true) {
+    match expect(after, TokenKind::CloseBracket, Fit::Within) {
         Ok((close, rest)) => Ok(Read {
             tree: Closed {
                 part: Length::Dollar(name),

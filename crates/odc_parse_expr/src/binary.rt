@@ -9,7 +9,7 @@ ghost use Rattle.odc_lookahead.specs.Read.{seen};
 ghost use Rattle.odc_lookahead.specs.Sets.{continues, continues_item};
 
 use crate::unary::unary;
-use odc_lookahead::operators::{later, operator};
+use odc_lookahead::operators::{later, operator, tighter};
 use odc_lookahead::read::Read;
 use odc_lookahead::stop::Stop;
 use odc_nodes::nodes;
@@ -57,12 +57,9 @@ fn item<'a>(
     ensures low { IfOk result (λ r. r.height ≤ depth + 1) }
     ensures fits { IfOk result (λ r. 0 < depth) }
 {
-    match of {
-        Level::Or => level(alloc, Level::And, mode, tokens, depth),
-        Level::And => level(alloc, Level::Comparison, mode, tokens, depth),
-        Level::Comparison => level(alloc, Level::Sum, mode, tokens, depth),
-        Level::Sum => level(alloc, Level::Product, mode, tokens, depth),
-        Level::Product => unary(alloc, mode, tokens, depth),
+    match tighter(of) {
+        Some(next) => level(alloc, next, mode, tokens, depth),
+        None => unary(alloc, mode, tokens, depth),
     }
 }
 

@@ -2,16 +2,16 @@
 
 ghost use Rattle.std.specs.Prelude.{◌≡◌, ◌↔◌, ◌<◌, ◌≤◌, ◌+◌, length, IsTrue, IfOk};
 ghost use Rattle.odc_lookahead.specs.declared.stop.Stop.TheVariants as stops;
-ghost use Rattle.odc_lookahead.specs.Runs.{Skips};
+ghost use Rattle.odc_lookahead.specs.stmts.Runs.{Skips};
 ghost use Rattle.odc_syntax.specs.Grammar as g;
-ghost use Rattle.odc_lookahead.specs.BodyParts.{braces_line};
+ghost use Rattle.odc_lookahead.specs.stmts.BodyParts.{braces_line};
 ghost use Rattle.odc_lookahead.specs.Exact.{Exact, one};
 ghost use Rattle.odc_lookahead.specs.Read.{seen};
 ghost use Rattle.odc_lookahead.specs.Sets.{nothing_continues};
-ghost use Rattle.odc_lookahead.specs.Statements.{stmt_list};
+ghost use Rattle.odc_lookahead.specs.stmts.Statements.{stmt_list};
 ghost use Rattle.odc_parse_expr.specs.Blocks.{braces_of, BodyOver};
 ghost use Rattle.odc_syntax.specs.declared.grammar.Mode.TheVariants.{Free};
-ghost use Rattle.odc_lookahead.specs.StatementSets.{continues_statement, continues_statements};
+ghost use Rattle.odc_lookahead.specs.stmts.StatementSets.{continues_statement, continues_statements};
 
 use crate::statement::statement;
 use odc_lookahead::read::{Closed, Read};

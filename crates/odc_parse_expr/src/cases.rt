@@ -5,7 +5,7 @@ ghost use Rattle.odc_syntax.specs.Grammar as g;
 ghost use Rattle.odc_lookahead.specs.Exact.{Exact, one};
 ghost use Rattle.odc_lookahead.specs.Read.{seen};
 ghost use Rattle.odc_parse_expr.specs.SwitchForms.{case_list};
-ghost use Rattle.odc_lookahead.specs.SwitchSets.{continues_cases};
+ghost use Rattle.odc_lookahead.specs.stmts.SwitchSets.{continues_cases};
 
 use crate::block::stmts;
 use crate::spans::items;

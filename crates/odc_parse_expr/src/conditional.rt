@@ -5,12 +5,12 @@ ghost use Rattle.odc_syntax.specs.declared.token.Token.{Token as TokenValue};
 ghost use Rattle.odc_syntax.specs.Grammar as g;
 ghost use Rattle.odc_syntax.specs.Tree as tree;
 ghost use Rattle.odc_syntax.specs.View.{expr, stmt, stmts, header_of, else_of};
-ghost use Rattle.odc_lookahead.specs.BodyParts.{head_line};
+ghost use Rattle.odc_lookahead.specs.stmts.BodyParts.{head_line};
 ghost use Rattle.odc_parse_expr.specs.Conditionals.{head_of, IfRead};
-ghost use Rattle.odc_lookahead.specs.Headers.{HeadExpression, ClosedFrom, ConditionFrom};
+ghost use Rattle.odc_lookahead.specs.stmts.Headers.{HeadExpression, ClosedFrom, ConditionFrom};
 ghost use Rattle.odc_lookahead.specs.Exact.{Exact, one};
 ghost use Rattle.odc_lookahead.specs.Read.{seen};
-ghost use Rattle.odc_lookahead.specs.StatementSets.{continues_statement, continues_head, continues_clause, EndsClause};
+ghost use Rattle.odc_lookahead.specs.stmts.StatementSets.{continues_statement, continues_head, continues_clause, EndsClause};
 
 use crate::binary::level;
 use crate::block::{body, body_over};

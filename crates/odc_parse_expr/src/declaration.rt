@@ -4,16 +4,16 @@ ghost use Rattle.std.specs.Prelude.{List, ℕ, ◌<◌, ◌≤◌, ◌+◌, suc,
 ghost use Rattle.odc_syntax.specs.declared.token.Token.{Token as TokenValue};
 ghost use Rattle.odc_syntax.specs.Grammar as g;
 ghost use Rattle.odc_syntax.specs.View.{type, decl};
-ghost use Rattle.odc_lookahead.specs.DeclarationParts.{name_list, continues_names, Headed, Typed};
+ghost use Rattle.odc_lookahead.specs.stmts.DeclarationParts.{name_list, continues_names, Headed, Typed};
 ghost use Rattle.odc_lookahead.specs.Exact.{Exact, Found, one};
 ghost use Rattle.odc_lookahead.specs.Read.{seen, refused};
-ghost use Rattle.odc_lookahead.specs.StatementSets.{continues_declaration};
+ghost use Rattle.odc_lookahead.specs.stmts.StatementSets.{continues_declaration};
 
 use crate::exprs::exprs;
 use crate::types::ty;
 use odc_lookahead::read::Read;
 use odc_lookahead::stop::Stop;
-use odc_lookahead::tokens::{expect, strip};
+use odc_lookahead::tokens::{Fit, expect, strip};
 use odc_nodes::stmt_nodes;
 use odc_syntax::grammar::{Mode, Use};
 use odc_syntax::token::{Token, TokenKind};
@@ -45,7 +45,7 @@ pub fn declaration<'a>(
         Ok(read) => read,
         Err(error) => return Err(error),
     };
-    match expect(rest, TokenKind::Colon, true) {
+    match expect(rest, TokenKind::Colon, Fit::Within) {
         Ok((_colon, after)) => behind_colon(alloc, mode, name.at, names, after, depth - 1),
         Err(error) => Err(error),
     }
@@ -60,7 +60,7 @@ pub fn names<'a>(alloc: Global, tokens: &'a [Token]) -> Result<(Vec<Token>, &'a 
     let mut names = Vec::new(alloc);
     let mut rest = tokens;
     'names: loop {
-        let (name, behind) = match expect(rest, TokenKind::Name, true) {
+        let (name, behind) = match expect(rest, TokenKind::Name, Fit::Within) {
             Ok(found) => found,
             Err(error) => return Err(error),
         };

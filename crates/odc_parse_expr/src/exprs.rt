@@ -8,8 +8,8 @@ ghost use Rattle.odc_syntax.specs.declared.grammar.Level.TheVariants as levels;
 ghost use Rattle.odc_lookahead.specs.Exact.{Exact, Found, one};
 ghost use Rattle.odc_lookahead.specs.Read.{seen};
 ghost use Rattle.odc_lookahead.specs.Sets.{continues};
-ghost use Rattle.odc_lookahead.specs.StatementSets.{continues_exprs};
-ghost use Rattle.odc_lookahead.specs.Statements.{expr_list, BeginsWith};
+ghost use Rattle.odc_lookahead.specs.stmts.StatementSets.{continues_exprs};
+ghost use Rattle.odc_lookahead.specs.stmts.Statements.{expr_list, BeginsWith};
 
 use crate::binary::level;
 use odc_lookahead::operators::later;

@@ -13,13 +13,14 @@ ghost use Rattle.odc_parse_expr.specs.Fields.{field_read};
 ghost use Rattle.odc_lookahead.specs.TypeParts.{field_item, enumerator_item, fields_line, types_line, enumerators_line, base_line, enumerator};
 
 use crate::binary::level;
+use crate::lists::items_up_to;
 use crate::types::ty;
 use odc_lookahead::end::End;
 use odc_lookahead::lists::after_item;
 use odc_lookahead::name_lists::names;
 use odc_lookahead::read::{Closed, Read, ReadTo};
 use odc_lookahead::stop::Stop;
-use odc_lookahead::tokens::{expect, strip, within};
+use odc_lookahead::tokens::{Fit, expect, strip, within};
 use odc_nodes::type_nodes;
 use odc_syntax::grammar::{Level, Mode, Use};
 use odc_syntax::token::{Token, TokenKind};
@@ -43,7 +44,7 @@ pub fn struct_type<'a>(
     ensures shorter { IfOk result (λ r. length r.rest.now ≤ length behind.now) }
     ensures low { IfOk result (λ r. r.height ≤ depth + 1) }
 {
-    let (_open, inner) = match expect(behind, TokenKind::OpenBrace, true) {
+    let (_open, inner) = match expect(behind, TokenKind::OpenBrace, Fit::Within) {
         Ok(found) => found,
         Err(error) => return Err(error),
     };
@@ -90,33 +91,19 @@ fn field_list<'a>(
     }
     let mut height: u16 = 0;
     let mut rest = tokens;
-    'items: loop {
-        let Read {
-            tree: FieldRead {
-                field: item,
-                colon: _colon,
-            },
-            height: n,
-            rest: after,
-        } = match field(alloc, used, rest, depth) {
-            Ok(read) => read,
-            Err(error) => return Err(discard_fields(list, error)),
-        };
-        list = push_field(list, item)?;
-        height = height.max(n);
-        let (end, behind) = match after_item(after, TokenKind::CloseBrace, within(height, depth)) {
-            Ok(found) => found,
-            Err(error) => return Err(discard_fields(list, error)),
-        };
-        match end {
-            Some(close) => return Ok(Read {
-                tree: Closed { part: list, close },
-                height,
-                rest: behind,
-            }),
-            None => rest = behind,
-        }
-    }
+    items_up_to!(
+        TokenKind::CloseBrace,
+        depth,
+        list,
+        height,
+        rest,
+        FieldRead {
+            field: item,
+            colon: _colon
+        } = field(alloc, used, rest, depth),
+        push_field(list, item)?,
+        discard_fields
+    )
 }
 
 /// A field, with the colon behind its names, which its tree does not keep.
@@ -173,7 +160,7 @@ pub fn union_type<'a>(
     ensures shorter { IfOk result (λ r. length r.rest.now ≤ length behind.now) }
     ensures low { IfOk result (λ r. r.height ≤ depth + 1) }
 {
-    let (_open, inner) = match expect(behind, TokenKind::OpenBrace, true) {
+    let (_open, inner) = match expect(behind, TokenKind::OpenBrace, Fit::Within) {
         Ok(found) => found,
         Err(error) => return Err(error),
     };
@@ -220,30 +207,16 @@ fn type_list<'a>(
     }
     let mut height: u16 = 0;
     let mut rest = tokens;
-    'items: loop {
-        let Read {
-            tree: item,
-            height: n,
-            rest: after,
-        } = match ty(alloc, used, rest, depth) {
-            Ok(read) => read,
-            Err(error) => return Err(discard_types(list, error)),
-        };
-        list = push_type(list, item)?;
-        height = height.max(n);
-        let (end, behind) = match after_item(after, TokenKind::CloseBrace, within(height, depth)) {
-            Ok(found) => found,
-            Err(error) => return Err(discard_types(list, error)),
-        };
-        match end {
-            Some(close) => return Ok(Read {
-                tree: Closed { part: list, close },
-                height,
-                rest: behind,
-            }),
-            None => rest = behind,
-        }
-    }
+    items_up_to!(
+        TokenKind::CloseBrace,
+        depth,
+        list,
+        height,
+        rest,
+        item = ty(alloc, used, rest, depth),
+        push_type(list, item)?,
+        discard_types
+    )
 }
 
 /// `enum T {..}`
@@ -370,30 +343,16 @@ fn enumerator_list<'a>(
     }
     let mut height: u16 = 0;
     let mut rest = tokens;
-    'items: loop {
-        let Read {
-            tree: item,
-            height: n,
-            rest: after,
-        } = match enumerator(alloc, rest, depth) {
-            Ok(read) => read,
-            Err(error) => return Err(discard_enumerators(list, error)),
-        };
-        list = push_enumerator(list, item)?;
-        height = height.max(n);
-        let (end, behind) = match after_item(after, TokenKind::CloseBrace, within(height, depth)) {
-            Ok(found) => found,
-            Err(error) => return Err(discard_enumerators(list, error)),
-        };
-        match end {
-            Some(close) => return Ok(Read {
-                tree: Closed { part: list, close },
-                height,
-                rest: behind,
-            }),
-            None => rest = behind,
-        }
-    }
+    items_up_to!(
+        TokenKind::CloseBrace,
+        depth,
+        list,
+        height,
+        rest,
+        item = enumerator(alloc, rest, depth),
+        push_enumerator(list, item)?,
+        discard_enumerators
+    )
 }
 
 /// A name, and the value that it is given.
@@ -407,7 +366,7 @@ fn enumerator<'a>(
     ensures shorter { IfOk result (λ r. length r.rest.now < length tokens.now) }
     ensures low { IfOk result (λ r. r.height ≤ depth + 1) }
 {
-    let (name, behind) = match expect(tokens, TokenKind::Name, true) {
+    let (name, behind) = match expect(tokens, TokenKind::Name, Fit::Within) {
         Ok(found) => found,
         Err(error) => return Err(error),
     };

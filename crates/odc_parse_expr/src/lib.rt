@@ -1,10 +1,10 @@
-// Expressions, types, statements and declarations: `parse_expr` and `parse_decl` give the tree of the front of
-// some tokens, or the first fault. What they answer stands in `specs/Law.antt`, in words of the grammar alone.
-// Below them each function reads a part of the grammar, and answers it exactly in any surroundings
-// (`specs/Exact.antt`); all call one another. A production is read symbol by symbol (`proofs/Leading.antt`), a
-// left-nested part item by item (`proofs/Chaining.antt`), a list up to its closing token
-// (`proofs/ListLemmas.antt`), and each way that a reading may end has a lemma of its own. The functions recurse
-// as deep as the tree, at most 200 nodes, and never along a list. Nothing is assumed of the tokens.
+// Expressions, types, statements and declarations: each function reads a part of the grammar from the front of
+// some tokens, and answers it exactly in any surroundings (`specs/Exact.antt` of odc_lookahead). All call one
+// another, so they are one crate and nothing else is in it. A production is read symbol by symbol, a left-nested
+// part item by item, a list up to its closing token by one loop (`lists.rt`), and each way that a reading may end
+// has a lemma of its own, in odc_lookahead. The functions recurse as deep as the tree, at most 200 nodes, and
+// never along a list. Nothing is assumed of the tokens. odc_parse says in words of the grammar alone what its
+// callers get.
 #![tactic(auto)]
 
 pub mod arguments;
@@ -16,10 +16,10 @@ pub mod conditional;
 pub mod declaration;
 pub mod exprs;
 pub mod fields;
+mod lists;
 pub mod loops;
 pub mod operand;
 pub mod params;
-pub mod parse;
 pub mod postfix;
 pub mod procedure;
 pub mod run_bounds;

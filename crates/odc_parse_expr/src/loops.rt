@@ -8,14 +8,14 @@ ghost use Rattle.odc_syntax.specs.Derives.{StartsWithout};
 ghost use Rattle.odc_syntax.specs.Grammar as g;
 ghost use Rattle.odc_syntax.specs.View.{expr, stmt, maybe_expr, header_of};
 ghost use Rattle.odc_lookahead.specs.Exact.{Exact, Found, one};
-ghost use Rattle.odc_lookahead.specs.Headers.{HeadExpression};
-ghost use Rattle.odc_parse_expr.specs.LoopForms.{end_of, steps_of, loop_of, BeginsBody, FrontIs, LoopStart, LoopClosed, LoopCondition, ConditionRead};
-ghost use Rattle.odc_lookahead.specs.LoopStarts.{Signed, Ranged, MoreNames, OneOver, MoreOver, NameBefore, NoNameBefore, asks, cost, list_cost, goes_one};
-ghost use Rattle.odc_lookahead.specs.Loops.{steps_line, after_line};
+ghost use Rattle.odc_lookahead.specs.stmts.Headers.{HeadExpression};
+ghost use Rattle.odc_parse_expr.specs.LoopForms.{end_of, steps_of, loop_of, refers, BeginsBody, FrontIs, LoopStart, LoopClosed, LoopCondition, ConditionRead};
+ghost use Rattle.odc_lookahead.specs.stmts.LoopStarts.{Signed, Ranged, MoreNames, OneOver, MoreOver, NameBefore, NoNameBefore, asks, cost, list_cost, goes_one};
+ghost use Rattle.odc_lookahead.specs.stmts.Loops.{steps_line, after_line};
 ghost use Rattle.odc_lookahead.specs.Read.{seen, refused};
 ghost use Rattle.odc_lookahead.specs.Sets.{starts_suffix};
-ghost use Rattle.odc_lookahead.specs.Statements.{LabelledRead, labelled_part, labelled_node};
-ghost use Rattle.odc_lookahead.specs.StatementSets.{continues_statement, continues_simple, EndsClause};
+ghost use Rattle.odc_lookahead.specs.stmts.Statements.{LabelledRead, labelled_part, labelled_node};
+ghost use Rattle.odc_lookahead.specs.stmts.StatementSets.{continues_statement, continues_simple, EndsClause};
 
 use crate::binary::level;
 use crate::block::{body, body_over, stands_at};
@@ -64,15 +64,24 @@ pub enum Loop {
     Range(RangeNames, Span, Vec<Stmt>),
 }
 
+/// What stands before the first variable of a loop.
+#[derive(Clone, Copy)]
+pub enum Sign {
+    /// Nothing.
+    Plain,
+    /// `&`
+    Reference,
+}
+
 /// What stands first behind `for`, as far as it may be variables.
 #[derive(Clone, Copy)]
 pub enum Front {
     /// Variables and `in`.
     Range(RangeNames),
     /// A name, or `&` and a name, behind which neither a comma nor `in` stands.
-    One(bool),
+    One(Sign),
     /// A name, or `&` and a name, and a comma, behind which no name and `in` stand.
-    More(bool),
+    More(Sign),
     /// `&`, behind which no name stands.
     Address,
     /// Neither a name nor `&`.
@@ -185,20 +194,21 @@ fn clauses<'a>(
     let (found, rest) = front_of(tokens);
     match found {
         Front::Range(names) => over(alloc, token, names, rest, depth),
-        Front::One(reference) => {
-            if depth < cost(reference) {
-                Err(one_over(reference, rest))
+        Front::One(sign) => {
+            if depth < cost(sign) {
+                Err(one_over(sign, rest))
             } else {
                 clause(alloc, token, tokens, depth)
             }
         }
-        Front::More(reference) => {
-            if depth < list_cost(reference) {
-                Err(more_over(alloc, reference, rest))
-            } else if reference {
-                list(alloc, token, tokens, depth)
+        Front::More(sign) => {
+            if depth < list_cost(sign) {
+                Err(more_over(alloc, sign, rest))
             } else {
-                clause(alloc, token, tokens, depth)
+                match sign {
+                    Sign::Reference => list(alloc, token, tokens, depth),
+                    Sign::Plain => clause(alloc, token, tokens, depth),
+                }
             }
         }
         Front::Address => {
@@ -222,59 +232,65 @@ fn clauses<'a>(
 fn front_of(tokens: &[Token]) -> (Front, &[Token])
     ensures { FrontIs tokens.now result.0 result.1.now }
 {
-    let (reference, rest) = signed(tokens);
+    let (sign, rest) = signed(tokens);
     match strip(rest, TokenKind::Name) {
-        Some((name, behind)) => behind_name(reference, name, behind),
-        None => (unnamed(reference), rest),
+        Some((name, behind)) => behind_name(sign, name, behind),
+        None => (unnamed(sign), rest),
     }
 }
 
 /// Whether `&` stands first, and the tokens behind it.
-fn signed(tokens: &[Token]) -> (bool, &[Token])
-    ensures { Signed result.0 tokens.now result.1.now }
+fn signed(tokens: &[Token]) -> (Sign, &[Token])
+    ensures { Signed (refers result.0) tokens.now result.1.now }
 {
     match strip(tokens, TokenKind::Ampersand) {
-        Some((_sign, rest)) => (true, rest),
-        None => (false, tokens),
+        Some((_sign, rest)) => (Sign::Reference, rest),
+        None => (Sign::Plain, tokens),
+    }
+}
+
+/// Whether this is `&`.
+fn refers(sign: Sign) -> bool
+    ensures { result ≡ refers sign }
+{
+    match sign {
+        Sign::Plain => false,
+        Sign::Reference => true,
     }
 }
 
 /// What stands first where no name stands behind what may be `&`.
-fn unnamed(reference: bool) -> Front
-    ensures { (ts rest : List TokenValue) → Signed reference ts rest → StartsWithout kind.Name rest → FrontIs ts result rest }
+fn unnamed(sign: Sign) -> Front
+    ensures { (ts rest : List TokenValue) → Signed (refers sign) ts rest → StartsWithout kind.Name rest → FrontIs ts result rest }
 {
-    if reference {
-        Front::Address
-    } else {
-        Front::Other
+    match sign {
+        Sign::Reference => Front::Address,
+        Sign::Plain => Front::Other,
     }
 }
 
 /// What stands first where a name does.
-fn behind_name(reference: bool, name: Token, tokens: &[Token]) -> (Front, &[Token])
-    ensures { (ts : List TokenValue) → Signed reference ts (name ∷ tokens.now) → name.kind ≡ kind.Name → FrontIs ts result.0 result.1.now }
+fn behind_name(sign: Sign, name: Token, tokens: &[Token]) -> (Front, &[Token])
+    ensures { (ts : List TokenValue) → Signed (refers sign) ts (name ∷ tokens.now) → name.kind ≡ kind.Name → FrontIs ts result.0 result.1.now }
 {
     match strip(tokens, TokenKind::In) {
-        Some((_in, rest)) => (Front::Range(variables(reference, name, None)), rest),
+        Some((_in, rest)) => (Front::Range(variables(sign, name, None)), rest),
         None => match strip(tokens, TokenKind::Comma) {
             Some((_comma, last)) => match second(last) {
-                Some((other, rest)) => (
-                    Front::Range(variables(reference, name, Some(other))),
-                    rest,
-                ),
-                None => (Front::More(reference), last),
+                Some((other, rest)) => (Front::Range(variables(sign, name, Some(other))), rest),
+                None => (Front::More(sign), last),
             },
-            None => (Front::One(reference), tokens),
+            None => (Front::One(sign), tokens),
         },
     }
 }
 
 /// The variables of a loop.
-fn variables(by_reference: bool, first: Token, second: Option<Token>) -> RangeNames
-    ensures { result ≡ record { by_reference = by_reference; first = first; second = second } }
+fn variables(sign: Sign, first: Token, second: Option<Token>) -> RangeNames
+    ensures { result ≡ record { by_reference = refers sign; first = first; second = second } }
 {
     RangeNames {
-        by_reference,
+        by_reference: refers(sign),
         first,
         second,
     }
@@ -295,26 +311,32 @@ fn second(tokens: &[Token]) -> Option<(Token, &[Token])>
 }
 
 /// What a name costs as an expression, or `&` and a name.
-fn cost(reference: bool) -> u8
-    ensures { result ≡ cost reference }
+fn cost(sign: Sign) -> u8
+    ensures { result ≡ cost (refers sign) }
 {
-    if reference { 2 } else { 1 }
+    match sign {
+        Sign::Plain => 1,
+        Sign::Reference => 2,
+    }
 }
 
 /// What clauses cost that begin with a name and a comma, or with `&`, a name and a comma.
-fn list_cost(reference: bool) -> u8
-    ensures { result ≡ list_cost reference }
+fn list_cost(sign: Sign) -> u8
+    ensures { result ≡ list_cost (refers sign) }
 {
-    if reference { 3 } else { 1 }
+    match sign {
+        Sign::Plain => 1,
+        Sign::Reference => 3,
+    }
 }
 
 /// Why nothing is read behind a name, or `&` and a name, that cost too much as an expression.
-fn one_over(reference: bool, tokens: &[Token]) -> Stop
-    ensures { OneOver reference tokens.now result }
+fn one_over(sign: Sign, tokens: &[Token]) -> Stop
+    ensures { OneOver (refers sign) tokens.now result }
 {
     match first(tokens) {
         Some((next, rest)) => {
-            if goes_one(reference, next.kind) {
+            if goes_one(sign, next.kind) {
                 Stop::Deep(rest.len())
             } else {
                 Stop::Syntax(tokens.len())
@@ -325,27 +347,30 @@ fn one_over(reference: bool, tokens: &[Token]) -> Stop
 }
 
 /// Whether a loop may go on with a token of this kind behind a name, or `&` and a name.
-fn goes_one(reference: bool, kind: TokenKind) -> bool
-    ensures { result ≡ goes_one reference kind }
+fn goes_one(sign: Sign, kind: TokenKind) -> bool
+    ensures { result ≡ goes_one (refers sign) kind }
 {
     match kind {
         TokenKind::OpenBrace | TokenKind::Do => true,
-        TokenKind::Colon => { if reference { false } else { true } }
+        TokenKind::Colon => match sign {
+            Sign::Plain => true,
+            Sign::Reference => false,
+        },
         _ => goes_on_closed(kind),
     }
 }
 
 /// Why nothing is read behind a name and a comma, or `&`, a name and a comma, where clauses cost too much.
 #[cycle(parser)]
-fn more_over(alloc: Global, reference: bool, tokens: &[Token]) -> Stop
-    ensures { MoreOver reference tokens.now result }
+fn more_over(alloc: Global, sign: Sign, tokens: &[Token]) -> Stop
+    ensures { MoreOver (refers sign) tokens.now result }
 {
-    if reference {
-        return last_over(alloc, tokens);
-    }
-    match declared(tokens) {
-        Some((_name, rest)) => Stop::Deep(rest.len()),
-        None => last_over(alloc, tokens),
+    match sign {
+        Sign::Reference => last_over(alloc, tokens),
+        Sign::Plain => match declared(tokens) {
+            Some((_name, rest)) => Stop::Deep(rest.len()),
+            None => last_over(alloc, tokens),
+        },
     }
 }
 

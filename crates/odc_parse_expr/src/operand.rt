@@ -17,7 +17,7 @@ use odc_lookahead::end::End;
 use odc_lookahead::operand::{OperandForm, operand_form};
 use odc_lookahead::read::{Closed, Read, ReadTo};
 use odc_lookahead::stop::Stop;
-use odc_lookahead::tokens::{expect, first, within};
+use odc_lookahead::tokens::{Fit, expect, first, within};
 use odc_nodes::nodes;
 use odc_syntax::grammar::{Level, Mode, Use};
 use odc_syntax::token::{Token, TokenKind};
@@ -112,7 +112,7 @@ fn compound<'a>(
     ensures low { IfOk result (λ r. r.height ≤ depth + 2) }
 {
     match form {
-        OperandForm::Dot => match expect(behind, TokenKind::Name, true) {
+        OperandForm::Dot => match expect(behind, TokenKind::Name, Fit::Within) {
             Ok((name, rest)) => Ok(ReadTo {
                 tree: nodes::leaf(alloc, token.at, ExprKind::Dot(name))?,
                 height: 1,

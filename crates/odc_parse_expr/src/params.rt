@@ -9,7 +9,7 @@ ghost use Rattle.odc_syntax.specs.Derives.{StartsWithout};
 ghost use Rattle.odc_lookahead.specs.Ends.{closed_by};
 ghost use Rattle.odc_lookahead.specs.Exact.{Exact, one};
 ghost use Rattle.odc_lookahead.specs.ParamForms.{Front, Crossed};
-ghost use Rattle.odc_lookahead.specs.Runs.{Undeclared};
+ghost use Rattle.odc_lookahead.specs.stmts.Runs.{Undeclared};
 ghost use Rattle.odc_lookahead.specs.Read.{seen};
 ghost use Rattle.odc_lookahead.specs.Sets.{continues_argument, nothing_continues};
 ghost use Rattle.odc_parse_expr.specs.Fields.{typed_read};
@@ -18,6 +18,7 @@ ghost use Rattle.odc_syntax.specs.View.{param, params};
 
 use crate::binary::level;
 use crate::fields::given;
+use crate::lists::items_up_to;
 use crate::types::ty;
 use odc_lookahead::end::inside;
 use odc_lookahead::lists::after_item;
@@ -122,30 +123,16 @@ fn named_list<'a>(
     let mut list = Vec::new(alloc);
     let mut height: u16 = 0;
     let mut rest = tokens;
-    'items: loop {
-        let Read {
-            tree: item,
-            height: n,
-            rest: after,
-        } = match named(alloc, used, rest, depth) {
-            Ok(read) => read,
-            Err(error) => return Err(discard_params(list, error)),
-        };
-        list = push_param(list, item)?;
-        height = height.max(n);
-        let (end, behind) = match after_item(after, TokenKind::CloseParen, within(height, depth)) {
-            Ok(found) => found,
-            Err(error) => return Err(discard_params(list, error)),
-        };
-        match end {
-            Some(close) => return Ok(Read {
-                tree: Closed { part: list, close },
-                height,
-                rest: behind,
-            }),
-            None => rest = behind,
-        }
-    }
+    items_up_to!(
+        TokenKind::CloseParen,
+        depth,
+        list,
+        height,
+        rest,
+        item = named(alloc, used, rest, depth),
+        push_param(list, item)?,
+        discard_params
+    )
 }
 
 /// Parameters without names between commas, or none, up to the closing parenthesis.
@@ -170,30 +157,16 @@ fn bare_list<'a>(
     }
     let mut height: u16 = 0;
     let mut rest = tokens;
-    'items: loop {
-        let Read {
-            tree: item,
-            height: n,
-            rest: after,
-        } = match bare(alloc, used, rest, depth) {
-            Ok(read) => read,
-            Err(error) => return Err(discard_params(list, error)),
-        };
-        list = push_param(list, item)?;
-        height = height.max(n);
-        let (end, behind) = match after_item(after, TokenKind::CloseParen, within(height, depth)) {
-            Ok(found) => found,
-            Err(error) => return Err(discard_params(list, error)),
-        };
-        match end {
-            Some(close) => return Ok(Read {
-                tree: Closed { part: list, close },
-                height,
-                rest: behind,
-            }),
-            None => rest = behind,
-        }
-    }
+    items_up_to!(
+        TokenKind::CloseParen,
+        depth,
+        list,
+        height,
+        rest,
+        item = bare(alloc, used, rest, depth),
+        push_param(list, item)?,
+        discard_params
+    )
 }
 
 /// A type alone.

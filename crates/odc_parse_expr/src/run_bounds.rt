@@ -3,7 +3,7 @@
 ghost use Rattle.std.specs.Prelude.{List, ◌≡◌, ◌∷◌, true, IfSome, IfNone};
 ghost use Rattle.odc_syntax.specs.declared.token.Token.{Token as TokenValue};
 ghost use Rattle.odc_syntax.specs.declared.token.TokenKind.TheVariants as kind;
-ghost use Rattle.odc_lookahead.specs.RunBounds.{Run, LastOver, RunOver, continues_closed, EndsClosed};
+ghost use Rattle.odc_lookahead.specs.stmts.RunBounds.{Run, LastOver, RunOver, continues_closed, EndsClosed};
 
 use crate::simple::{assignment_of, nothing_fits};
 use odc_lookahead::operators::goes_on;

@@ -1,7 +1,7 @@
 //! Names at the start of a statement.
 
 ghost use Rattle.std.specs.Prelude.{◌<◌, length, IfSome, IfNone};
-ghost use Rattle.odc_lookahead.specs.Runs.{Labels, NotLabelled};
+ghost use Rattle.odc_lookahead.specs.stmts.Runs.{Labels, NotLabelled};
 ghost use Rattle.odc_parse_expr.specs.Conditionals.{NamesIn};
 
 use odc_lookahead::name_lists::names_end;

@@ -14,7 +14,7 @@ use crate::types::type_to;
 use odc_lookahead::end::{End, at_end};
 use odc_lookahead::read::{Closed, Read, ReadTo};
 use odc_lookahead::stop::Stop;
-use odc_lookahead::tokens::{expect, strip};
+use odc_lookahead::tokens::{Fit, expect, strip};
 use odc_nodes::type_nodes;
 use odc_syntax::grammar::Use;
 use odc_syntax::token::{Token, TokenKind};
@@ -36,7 +36,7 @@ pub fn signature<'a>(
     ensures low { IfOk result (λ r. r.height ≤ depth) }
 {
     let (convention, after) = convention(behind);
-    let (_open, inner) = match expect(after, TokenKind::OpenParen, true) {
+    let (_open, inner) = match expect(after, TokenKind::OpenParen, Fit::Within) {
         Ok(found) => found,
         Err(error) => return Err(error),
     };

@@ -9,7 +9,7 @@ ghost use Rattle.odc_syntax.specs.declared.grammar.Level.TheVariants as levels;
 ghost use Rattle.odc_lookahead.specs.Exact.{Exact, Found, one};
 ghost use Rattle.odc_lookahead.specs.Read.{seen, refused};
 ghost use Rattle.odc_lookahead.specs.Sets.{continues};
-ghost use Rattle.odc_lookahead.specs.StatementSets.{continues_simple, NoAssignment};
+ghost use Rattle.odc_lookahead.specs.stmts.StatementSets.{continues_simple, NoAssignment};
 
 use crate::binary::level;
 use crate::exprs::{exprs, exprs_from};

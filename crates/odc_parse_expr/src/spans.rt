@@ -10,7 +10,7 @@ ghost use Rattle.odc_lookahead.specs.Exact.{Exact, Found, one};
 ghost use Rattle.odc_lookahead.specs.Read.{seen};
 ghost use Rattle.odc_lookahead.specs.Sets.{continues};
 ghost use Rattle.odc_parse_expr.specs.SwitchForms.{span_list};
-ghost use Rattle.odc_lookahead.specs.SwitchSets.{continues_span, begins_items};
+ghost use Rattle.odc_lookahead.specs.stmts.SwitchSets.{continues_span, begins_items};
 
 use crate::binary::level;
 use crate::block::stands_at;

@@ -7,10 +7,10 @@ ghost use Rattle.odc_syntax.specs.declared.token.TokenKind.TheVariants as kind;
 ghost use Rattle.odc_lookahead.specs.declared.statement_form.StatementForm.TheVariants as forms;
 ghost use Rattle.odc_lookahead.specs.Exact.{Exact, one};
 ghost use Rattle.odc_lookahead.specs.Read.{seen, refused};
-ghost use Rattle.odc_lookahead.specs.Runs.{NotLabelled};
-ghost use Rattle.odc_lookahead.specs.StatementForms.{statement_form};
-ghost use Rattle.odc_lookahead.specs.Statements.{LabelledRead, labelled_part};
-ghost use Rattle.odc_lookahead.specs.StatementSets.{continues_statement, continues_simple, EndsSimple};
+ghost use Rattle.odc_lookahead.specs.stmts.Runs.{NotLabelled};
+ghost use Rattle.odc_lookahead.specs.stmts.StatementForms.{statement_form};
+ghost use Rattle.odc_lookahead.specs.stmts.Statements.{LabelledRead, labelled_part};
+ghost use Rattle.odc_lookahead.specs.stmts.StatementSets.{continues_statement, continues_simple, EndsSimple};
 
 use crate::block::{braces, stands_at};
 use crate::conditional::if_statement;

@@ -8,13 +8,13 @@ ghost use Rattle.odc_syntax.specs.Derives.{StartsWithout};
 ghost use Rattle.odc_syntax.specs.Tree as tree;
 ghost use Rattle.odc_syntax.specs.View.{expr, stmt, header_of, cases as case_tree};
 ghost use Rattle.odc_lookahead.specs.Exact.{Exact, one};
-ghost use Rattle.odc_lookahead.specs.Headers.{Listed, HeadExpression, ClosedFrom, ConditionFrom};
+ghost use Rattle.odc_lookahead.specs.stmts.Headers.{Listed, HeadExpression, ClosedFrom, ConditionFrom};
 ghost use Rattle.odc_lookahead.specs.Read.{seen, refused};
-ghost use Rattle.odc_lookahead.specs.Statements.{LabelledRead, labelled_part, labelled_node};
-ghost use Rattle.odc_lookahead.specs.StatementSets.{continues_statement, continues_head};
+ghost use Rattle.odc_lookahead.specs.stmts.Statements.{LabelledRead, labelled_part, labelled_node};
+ghost use Rattle.odc_lookahead.specs.stmts.StatementSets.{continues_statement, continues_head};
 ghost use Rattle.odc_parse_expr.specs.SwitchForms.{head_of};
-ghost use Rattle.odc_lookahead.specs.SwitchParts.{by_value, switch_head, switched, NotTyped, NotPartial, WordRead};
-ghost use Rattle.odc_lookahead.specs.SwitchSets.{before_cases, EndsHead};
+ghost use Rattle.odc_lookahead.specs.stmts.SwitchParts.{by_value, switch_head, switched, NotTyped, NotPartial, WordRead};
+ghost use Rattle.odc_lookahead.specs.stmts.SwitchSets.{before_cases, EndsHead};
 
 use crate::binary::level;
 use crate::block::stands_at;
@@ -27,7 +27,7 @@ use crate::simple::{nothing_fits, simple, simple_from};
 use crate::statement::goes_on_simple;
 use odc_lookahead::read::Read;
 use odc_lookahead::stop::Stop;
-use odc_lookahead::tokens::{expect, first, same_kind, strip, within};
+use odc_lookahead::tokens::{Fit, expect, first, same_kind, strip, within};
 use odc_nodes::{nodes, stmt_nodes, switch_nodes};
 use odc_syntax::grammar::{Level, Mode};
 use odc_syntax::token::{Token, TokenKind, Word};
@@ -109,7 +109,7 @@ fn switch_word(tokens: &[Token]) -> Result<(Place, SwitchWord, &[Token]), Stop>
         Some(found) => found,
         None => return Err(Stop::Syntax(tokens.len())),
     };
-    match expect(behind, TokenKind::Switch, true) {
+    match expect(behind, TokenKind::Switch, Fit::Within) {
         Ok((token, rest)) => {
             let word = SwitchWord {
                 at: token.at,

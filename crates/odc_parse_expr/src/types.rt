@@ -18,7 +18,7 @@ use odc_lookahead::end::{End, at_end, ends_operand, inside};
 use odc_lookahead::read::{Read, ReadTo};
 use odc_lookahead::shape::Shape;
 use odc_lookahead::stop::Stop;
-use odc_lookahead::tokens::{expect, first, strip, within};
+use odc_lookahead::tokens::{Fit, expect, first, strip, within};
 use odc_lookahead::type_form::{BuiltForm, OwnForm, built_form, own_form};
 use odc_nodes::type_nodes;
 use odc_syntax::grammar::Use;
@@ -316,7 +316,7 @@ fn dollar(
     ensures shorter { IfOk result (λ r. length r.rest.now ≤ length behind.now) }
     ensures low { IfOk result (λ r. r.height ≤ 1) }
 {
-    match expect(behind, TokenKind::Name, true) {
+    match expect(behind, TokenKind::Name, Fit::Within) {
         Ok((name, rest)) => Ok(ReadTo {
             tree: type_nodes::dollar(alloc, token.at, name)?,
             height: 1,
@@ -340,7 +340,7 @@ fn word_proc<'a>(
     ensures shorter { IfOk result (λ r. length r.rest.now ≤ length behind.now) }
     ensures low { IfOk result (λ r. r.height ≤ depth + 1) }
 {
-    let (proc, inner) = match expect(behind, TokenKind::Proc, true) {
+    let (proc, inner) = match expect(behind, TokenKind::Proc, Fit::Within) {
         Ok(found) => found,
         Err(error) => return Err(error),
     };
@@ -375,7 +375,7 @@ fn soa<'a>(
     ensures shorter { IfOk result (λ r. length r.rest.now ≤ length behind.now) }
     ensures low { IfOk result (λ r. r.height ≤ depth + 1) }
 {
-    match expect(behind, TokenKind::OpenBracket, true) {
+    match expect(behind, TokenKind::OpenBracket, Fit::Within) {
         Ok((_open, inner)) => array(alloc, used, Shape::Soa, token.at, inner, depth),
         Err(error) => Err(error),
     }

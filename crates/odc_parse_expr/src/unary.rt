@@ -13,7 +13,7 @@ use crate::types::ty;
 use odc_lookahead::operators::later;
 use odc_lookahead::read::Read;
 use odc_lookahead::stop::Stop;
-use odc_lookahead::tokens::{expect, first, within};
+use odc_lookahead::tokens::{Fit, expect, first, within};
 use odc_lookahead::unary::{UnaryForm, unary_form};
 use odc_nodes::nodes;
 use odc_syntax::grammar::{Mode, Use};
@@ -85,7 +85,7 @@ fn cast<'a>(
     ensures shorter { IfOk result (λ r. length r.rest.now ≤ length behind.now) }
     ensures low { IfOk result (λ r. r.height ≤ depth + 2) }
 {
-    let (_open, inner) = match expect(behind, TokenKind::OpenParen, true) {
+    let (_open, inner) = match expect(behind, TokenKind::OpenParen, Fit::Within) {
         Ok(found) => found,
         Err(error) => return Err(error),
     };

@@ -17,9 +17,6 @@ use std::alloc::{AllocError, Global};
 use std::collections::HashMap;
 use std::marker::Model;
 
-#[cfg(test)]
-mod tests;
-
 /// Why a name was not added. Either way the item comes back.
 #[derive(Drop)]
 pub enum AddError<I> {

@@ -10,6 +10,4 @@ pub mod lines;
 mod pieces;
 pub mod scope;
 mod sums;
-#[cfg(test)]
-mod tests;
 pub mod text;

@@ -7,14 +7,14 @@ use Rattle.std.proofs.lemmas.Bool.Decides.{nat_tests}
 use Rattle.std.proofs.lemmas.Str.{char_from_byte}
 use Rattle.unicode_ident.proofs.IdentLemmas.{is_xid_start-ascii}
 use Rattle.odc_syntax.specs.declared.token.TokenKind.{TokenKind}
-use Rattle.odc_syntax.specs.Longest.{Heads}
-use Rattle.odc_syntax.specs.Names.{IsWord, IsDirective, Row, word_kind, starts_name}
-use Rattle.odc_syntax.specs.Numbers.{IsNumber, decimal, based}
-use Rattle.odc_syntax.specs.Texts.{IsRune, IsQuoted, IsRaw}
-use Rattle.odc_syntax.specs.Comments.{IsLineComment, IsBlockComment}
-use Rattle.odc_syntax.specs.Signs.{signs, IsAmong, IsSign}
-use Rattle.odc_syntax.specs.Pieces.{Piece, blank, newline, token, bytes_of, IsPiece, white, line_end, line_comment, block_comment, word, number, rune, quoted, raw, directive, sign, is_white, IsWhite, comment, BeginsComment}
-use Rattle.odc_syntax.specs.Classes.{Class, white_class, newline_class, line_comment_class, block_comment_class, word_class, number_class, rune_class, quoted_class, raw_class, directive_class, sign_class, is_word_byte, class_at, class_of}
+use Rattle.odc_syntax.specs.lexical.Longest.{Heads}
+use Rattle.odc_syntax.specs.lexical.Names.{IsWord, IsDirective, Row, word_kind, starts_name}
+use Rattle.odc_syntax.specs.lexical.Numbers.{IsNumber, decimal, based}
+use Rattle.odc_syntax.specs.lexical.Texts.{IsRune, IsQuoted, IsRaw}
+use Rattle.odc_syntax.specs.lexical.Comments.{IsLineComment, IsBlockComment}
+use Rattle.odc_syntax.specs.lexical.Signs.{signs, IsAmong, IsSign}
+use Rattle.odc_syntax.specs.lexical.Pieces.{Piece, blank, newline, token, bytes_of, IsPiece, white, line_end, line_comment, block_comment, word, number, rune, quoted, raw, directive, sign, is_white, IsWhite, comment, BeginsComment}
+use Rattle.odc_syntax.specs.lexical.Classes.{Class, white_class, newline_class, line_comment_class, block_comment_class, word_class, number_class, rune_class, quoted_class, raw_class, directive_class, sign_class, is_word_byte, class_at, class_of}
 use Rattle.std.specs.List.{list_any}
 use Rattle.odc_syntax.specs.declared.token.TokenKind.TheVariants.{Rune, Text, Directive}
 use Rattle.odc_syntax.proofs.Units.{characters_are_units}

@@ -4,13 +4,13 @@ use Rattle.odc_text.specs.declared.place.FileId.{FileId}
 use Rattle.odc_text.specs.declared.place.Place.{Place}
 use Rattle.odc_syntax.specs.declared.token.Token.{Token}
 use Rattle.odc_syntax.specs.declared.token.TokenKind.TheVariants.{Rune, Text, Directive}
-use Rattle.odc_syntax.specs.Names.{word_kind}
-use Rattle.odc_syntax.specs.Numbers.{IsNumber}
-use Rattle.odc_syntax.specs.Signs.{IsSign}
-use Rattle.odc_syntax.specs.Pieces.{Piece, blank, token, bytes_of, is_number, IsPiece, white, line_end, line_comment, block_comment, word, number, rune, quoted, raw, directive, sign, comment, IsLongest, NoPiece, spelled, IsCut, ends_in_number}
-use Rattle.odc_syntax.specs.Lexes.{Lexes, IsStuck, tokens_of, start, mark_len, behind}
-use Rattle.odc_syntax.specs.Classes.{class_of}
-use Rattle.odc_syntax.specs.Longest.{Heads}
+use Rattle.odc_syntax.specs.lexical.Names.{word_kind}
+use Rattle.odc_syntax.specs.lexical.Numbers.{IsNumber}
+use Rattle.odc_syntax.specs.lexical.Signs.{IsSign}
+use Rattle.odc_syntax.specs.lexical.Pieces.{Piece, blank, token, bytes_of, is_number, IsPiece, white, line_end, line_comment, block_comment, word, number, rune, quoted, raw, directive, sign, comment, IsLongest, NoPiece, spelled, IsCut, ends_in_number}
+use Rattle.odc_syntax.specs.lexical.Lexes.{Lexes, IsStuck, tokens_of, start, mark_len, behind}
+use Rattle.odc_syntax.specs.lexical.Classes.{class_of}
+use Rattle.odc_syntax.specs.lexical.Longest.{Heads}
 use Rattle.odc_syntax.proofs.Longest.{same_length, cancel_along}
 use Rattle.odc_syntax.proofs.NumberLemmas.{number_kind_is_one}
 use Rattle.odc_syntax.proofs.SignLemmas.{sign_is_one}

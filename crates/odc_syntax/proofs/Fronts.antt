@@ -3,10 +3,10 @@ use Rattle.std.proofs.Common.{◌≡◌, ℕ, suc, ◌+◌, ◌<◌, ◌≤◌, 
 use Rattle.std.proofs.Math.Seq.{take-add}
 use Rattle.std.proofs.lemmas.List.{drop-drop}
 use Rattle.std.specs.Option.{unwrap_or}
-use Rattle.odc_syntax.specs.Words.{Run, Led, Then}
-use Rattle.odc_syntax.specs.Longest.{Begins, Absent, Best, IsWholeRun, IsFront, FindsFront, Never}
-use Rattle.odc_syntax.specs.Numbers.{Optional}
-use Rattle.odc_syntax.specs.Texts.{IsBetween}
+use Rattle.odc_syntax.specs.lexical.Words.{Run, Led, Then}
+use Rattle.odc_syntax.specs.lexical.Longest.{Begins, Absent, Best, IsWholeRun, IsFront, FindsFront, Never}
+use Rattle.odc_syntax.specs.lexical.Numbers.{Optional}
+use Rattle.odc_syntax.specs.lexical.Texts.{IsBetween}
 use Rattle.odc_syntax.proofs.Longest.{AreUnits, run_best, led_best, then_best, optional_some, cancel, take_join}
 
 pub drop_join : (text : List ℕ) (m n : ℕ) → drop n (drop m text) ≡ drop (m + n) text

@@ -3,9 +3,9 @@
 use Rattle.std.proofs.Common.{take, drop, append-nil, length-drop, ◌≡◌, ℕ, ◌+◌, ◌<◌, ◌≤◌, ◌⊎◌, List, [], ◌∷◌, ◌++◌, length, refl, sym, ◌∙◌, ap, subst, inl, inr, ⊎_elim, append_assoc, arith, length-append}
 use Rattle.std.proofs.Math.Seq.{take-add}
 use Rattle.std.specs.List.{AllByRecursion}
-use Rattle.odc_syntax.specs.Words.{Run, Led, Then, joined}
-use Rattle.odc_syntax.specs.Longest.{Begins, Absent, Best}
-use Rattle.odc_syntax.specs.Numbers.{Optional}
+use Rattle.odc_syntax.specs.lexical.Words.{Run, Led, Then, joined}
+use Rattle.odc_syntax.specs.lexical.Longest.{Begins, Absent, Best}
+use Rattle.odc_syntax.specs.lexical.Numbers.{Optional}
 
 -- no unit is empty, and no two of them begin one text
 pub record AreUnits (U : List ℕ → Type 0) : Type 0 where

@@ -4,9 +4,9 @@ use Rattle.std.proofs.lemmas.Bool.{false≢true, eqb-true, or_cases, or_right, l
 use Rattle.std.proofs.lemmas.Bool.Decides.{nat_tests}
 use Rattle.std.specs.Char.{is_digit}
 use Rattle.odc_syntax.specs.declared.token.TokenKind.{TokenKind}
-use Rattle.odc_syntax.specs.Words.{IsByte, Run, Then}
-use Rattle.odc_syntax.specs.Longest.{Begins, Absent, Best, Heads}
-use Rattle.odc_syntax.specs.Numbers.{Digits, Prefix, binary, octal, hexadecimal, IsBased, Optional, IsFraction, IsExponent, IsUnitLetter, DecimalTail, number_kind, IsNumber, decimal, based, is_digit_of, is_digit_or_underscore, is_underscore, is_exponent_letter, is_unit_letter}
+use Rattle.odc_syntax.specs.lexical.Words.{IsByte, Run, Then}
+use Rattle.odc_syntax.specs.lexical.Longest.{Begins, Absent, Best, Heads}
+use Rattle.odc_syntax.specs.lexical.Numbers.{Digits, Prefix, binary, octal, hexadecimal, IsBased, Optional, IsFraction, IsExponent, IsUnitLetter, DecimalTail, number_kind, IsNumber, decimal, based, is_digit_of, is_digit_or_underscore, is_underscore, is_exponent_letter, is_unit_letter}
 use Rattle.odc_syntax.proofs.Longest.{run_best, run_none, led_best, then_best, cancel_along}
 use Rattle.odc_syntax.proofs.Units.{bytes_are_units}
 

@@ -2,8 +2,8 @@
 use Rattle.std.proofs.Common.{◌≡◌, ℕ, ◌<◌, ◌≤◌, Bool, true, false, not, ◌&&◌, List, [], ◌∷◌, ◌++◌, length, refl, sym, ◌∙◌, ap, ⊎_elim, arith}
 use Rattle.std.proofs.lemmas.Bool.{false≢true, and_parts, and_from, not-true, eq-eqb, cases_lt}
 use Rattle.odc_syntax.specs.declared.token.TokenKind.{TokenKind}
-use Rattle.odc_syntax.specs.Names.{Row}
-use Rattle.odc_syntax.specs.Signs.{signs, IsAmong, IsSign}
+use Rattle.odc_syntax.specs.lexical.Names.{Row}
+use Rattle.odc_syntax.specs.lexical.Signs.{signs, IsAmong, IsSign}
 use Rattle.std.specs.Prelude.{nat_eq}
 
 -- p begins w

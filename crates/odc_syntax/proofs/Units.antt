@@ -4,8 +4,8 @@ use Rattle.std.proofs.lemmas.Str.{encode_same, length-encode, len_utf8_bounds, e
 use Rattle.std.specs.Char.{encode_utf8}
 use Rattle.std.proofs.lemmas.Bool.{false≢true}
 use Rattle.std.proofs.lemmas.Bool.Decides.{nat_tests}
-use Rattle.odc_syntax.specs.Texts.{IsEscape, IsItem, is_short_escape, hex_digits, short, coded, plain, escape}
-use Rattle.odc_syntax.specs.Words.{IsByte, IsCharacter}
+use Rattle.odc_syntax.specs.lexical.Texts.{IsEscape, IsItem, is_short_escape, hex_digits, short, coded, plain, escape}
+use Rattle.odc_syntax.specs.lexical.Words.{IsByte, IsCharacter}
 use Rattle.odc_syntax.proofs.Longest.{AreUnits, same_length}
 
 pub bytes_are_units : {p : ℕ → Bool} → AreUnits (IsByte p)

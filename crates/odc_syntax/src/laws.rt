@@ -4,8 +4,8 @@ ghost use Rattle.std.specs.Prelude.{◌≡◌, ℕ, List, [], ◌∷◌, codes};
 ghost use Rattle.odc_text.specs.declared.place.FileId.{FileId};
 ghost use Rattle.odc_text.specs.declared.place.Place.{Place};
 ghost use Rattle.odc_syntax.specs.declared.token.Token.{Token};
-ghost use Rattle.odc_syntax.specs.Lexes.{Lexes, IsStuck};
-ghost use Rattle.odc_syntax.specs.Value.{integer_value, rune_value, text_value};
+ghost use Rattle.odc_syntax.specs.lexical.Lexes.{Lexes, IsStuck};
+ghost use Rattle.odc_syntax.specs.lexical.Value.{integer_value, rune_value, text_value};
 
 /// A text has at most one list of tokens, and one end.
 pub fn tokens_are_determined()

@@ -3,8 +3,8 @@
 use odc_builtins::library;
 use odc_lex::lex;
 use odc_lookahead::error::ParseError;
+use odc_parse::front::{Parsed, parse_decl, parse_expr};
 use odc_parse::parse::parse_file;
-use odc_parse_expr::parse::{Parsed, parse_decl, parse_expr};
 use odc_syntax::token::Tokens;
 use odc_syntax::tree::{DeclKind, Else, ExprKind, FileTree, StmtKind};
 use odc_text::code::{Fault, code_name};

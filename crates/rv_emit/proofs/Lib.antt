@@ -5,17 +5,9 @@ pub mod Steps
 pub mod Numbers
 pub mod Ranges
 pub mod Words
-pub mod Ties
-pub mod Sims
-pub mod Jumps
-pub mod Services
-pub mod Calls
-pub mod Enters
-pub mod Values
-pub mod Returns
-pub mod Runs
+-- each step of mid code, and what its instructions do
+pub mod simulation
 pub mod Placed
-pub mod Begin
 pub mod Tables
 pub mod Able
 pub mod Fitting

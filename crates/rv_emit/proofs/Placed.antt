@@ -19,8 +19,8 @@ use Rattle.rv_emit.specs.Code.{number_code, load_slot, store_slot, text_start, A
 use Rattle.rv_emit.specs.Layout.{HasSlots, AllHaveSlots}
 use Rattle.rv_emit.specs.Emitted.{Becomes, IsEmitted}
 use Rattle.rv_emit.proofs.Flat.{Setting, Stands, stands_parts}
-use Rattle.rv_emit.proofs.Sims.{stands_long}
-use Rattle.rv_emit.proofs.Ties.{SitesAt, AreListed, HasStep, HasProc, Built}
+use Rattle.rv_emit.proofs.simulation.Sims.{stands_long}
+use Rattle.rv_emit.proofs.simulation.Ties.{SitesAt, AreListed, HasStep, HasProc, Built}
 
 -- ---- lengths
 

@@ -8,7 +8,7 @@ use Rattle.rv_emit.specs.Code.{entry_of, code_of, sites_of, calls_of}
 use Rattle.rv_emit.specs.Encoded.{IsEncoded}
 use Rattle.rv_emit.specs.Layout.{AllHaveSlots, IsShort, image_with, image_of}
 use Rattle.rv_emit.specs.Emitted.{IsEmitted, IsKept}
-use Rattle.rv_emit.proofs.Begin.{keeps}
+use Rattle.rv_emit.proofs.simulation.Begin.{keeps}
 use Rattle.rv_emit.proofs.Blocks.{emitted}
 
 -- three facts of a result together

@@ -18,6 +18,4 @@ pub mod link;
 pub mod loaded;
 mod sizes;
 mod step;
-#[cfg(test)]
-mod tests;
 pub mod unlinked;

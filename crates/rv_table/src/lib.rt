@@ -13,7 +13,5 @@ pub mod effect;
 mod format;
 pub mod inst;
 mod operand;
-#[cfg(test)]
-mod tests;
 
 pub use code::{decode, encode};

@@ -21,6 +21,8 @@ use Rattle.odc_lookahead.proofs.separated.ListLemmas.{led_parts, parts_refused, 
 use Rattle.odc_lookahead.proofs.separated.ListRules.{arg_cons, args_listed}
 use Rattle.odc_lookahead.proofs.expr.ArgsLemmas.{Closes, paren_closes, brace_closes, arg_closes, left_of_arguments, next_argument, args_open, args_empty}
 use Rattle.odc_lookahead.proofs.reading.Samples as sample
+use Rattle.odc_lookahead.specs.declared.tokens.Fit.{Fit}
+use Rattle.odc_lookahead.specs.declared.tokens.Fit.TheVariants as fit
 
 pub closes_of : (close : TokenKind) → ClosesArguments close → Closes close
 closes_of close (inl e) = subst (λ (k : TokenKind). Closes k) (sym e) paren_closes
@@ -101,7 +103,7 @@ arguments_again close k b ts xs ys x n after us led more within again =
     (λ i. λ u. ((sym (onto_last xs x (arg_cons u.0 u.1.0))) i, u.1.1))
     (list_again arg_item g.args g.more_args tree.no_args arg_cons args_listed (None, sample.expr) close (closes_of close k).no_comma (arg_closes close (closes_of close k)) us again within led))
 
-pub arguments_refused : (close : TokenKind) → ClosesArguments close → (b : ℕ) (ts : List Token) (xs : List Arg) (v : Option Token × Expr) (n : ℕ) (after : List Token) (stop : Stop) (within : Bool) →
-    ItemRead close b ts xs v n after → NotGoing close within after stop → (within ≡ false → b < n) → Exact (arguments close) nothing_continues b ts (refused stop)
+pub arguments_refused : (close : TokenKind) → ClosesArguments close → (b : ℕ) (ts : List Token) (xs : List Arg) (v : Option Token × Expr) (n : ℕ) (after : List Token) (stop : Stop) (within : Fit) →
+    ItemRead close b ts xs v n after → NotGoing close within after stop → (within ≡ fit.Over → b < n) → Exact (arguments close) nothing_continues b ts (refused stop)
 arguments_refused close k b ts xs v n after stop within led h over =
     list_refused arg_item g.args g.more_args tree.no_args arg_cons args_listed (None, sample.expr) close (closes_of close k).no_comma (arg_closes close (closes_of close k)) stop within h over led

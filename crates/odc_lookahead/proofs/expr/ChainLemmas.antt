@@ -1,5 +1,5 @@
 -- The loop over the operators of a level, and the one comparison.
-use Rattle.std.proofs.Common.{Bool, List, Some, [], ap, arith, length, max, refl, subst, suc, sym, true, ℕ, ◌++◌, ◌<◌, ◌||◌, ◌∷◌, ◌≡◌, ◌≤◌}
+use Rattle.std.proofs.Common.{Bool, List, Some, None, [], ap, arith, length, max, refl, subst, suc, sym, true, ℕ, ◌++◌, ◌<◌, ◌||◌, ◌∷◌, ◌≡◌, ◌≤◌}
 use Rattle.odc_syntax.specs.declared.token.Token.{Token}
 use Rattle.odc_syntax.specs.declared.token.TokenKind.{TokenKind}
 use Rattle.odc_syntax.specs.declared.grammar.Mode.{Mode}
@@ -15,7 +15,7 @@ use Rattle.odc_syntax.specs.declared.grammar.Level.TheVariants as level
 use Rattle.odc_lookahead.specs.declared.stop.Stop.{Stop}
 use Rattle.odc_lookahead.specs.Exact.{Clear, one, Exact, Answer, Found, TooDeep, Remains}
 use Rattle.odc_lookahead.specs.Read.{refused, NoOperator}
-use Rattle.odc_lookahead.specs.Sets.{starts_suffix, rank, has_rank_from, continues, continues_item}
+use Rattle.odc_lookahead.specs.Sets.{starts_suffix, rank, has_rank_from, continues, continues_item, tighter}
 use Rattle.odc_lookahead.proofs.reading.Chaining.{Spine, Chain, Chained, chain_first, chain_more, chain_stop, chain_deep}
 use Rattle.odc_lookahead.proofs.reading.Nesting.{Many, root, Once, alone, Never, never, below, once_below, chain_nested, many_chained, many_folds, many_unfolds, once_folds, once_unfolds}
 use Rattle.odc_lookahead.proofs.reading.Answering.{tail_refused, bound_is, first_refused, wider_exact}
@@ -117,6 +117,18 @@ comparison_done m d ts v n rest led = record {
 -- at the level that a match has found
 pub item_at : (l of : Level) (m : Mode) (d : ℕ) (ts : List Token) (r : Answer Expr) → l ≡ of → Exact (one (item of m)) (continues_item of m) d ts r → Exact (one (item l m)) (continues_item l m) d ts r
 item_at l of m d ts r e h = subst (λ (k : Level). Exact (one (item k m)) (continues_item k m) d ts r) (sym e) h
+
+-- at the level that is one tighter, and where none is
+pub tighter_item : (l of : Level) (m : Mode) (d : ℕ) (ts : List Token) (r : Answer Expr) → tighter l ≡ Some of → Exact (one (chain of m)) (continues of m) d ts r → Exact (one (item l m)) (continues_item l m) d ts r
+tighter_item level.Or level.And m d ts r e h = h
+tighter_item level.And level.Comparison m d ts r e h = h
+tighter_item level.Comparison level.Sum m d ts r e h = h
+tighter_item level.Sum level.Product m d ts r e h = h
+tighter_item _ _ m d ts r e h = cc
+
+pub no_tighter : (l : Level) → tighter l ≡ None → l ≡ level.Product
+no_tighter level.Product e = refl
+no_tighter _ e = cc
 
 pub chain_at : (l of : Level) (m : Mode) (d : ℕ) (ts : List Token) (r : Answer Expr) → l ≡ of → Exact (one (chain of m)) (continues of m) d ts r → Exact (one (chain l m)) (continues l m) d ts r
 chain_at l of m d ts r e h = subst (λ (k : Level). Exact (one (chain k m)) (continues k m) d ts r) (sym e) h

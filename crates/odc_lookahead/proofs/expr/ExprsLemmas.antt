@@ -16,7 +16,7 @@ use Rattle.odc_lookahead.specs.Exact.{size, Clear, Part, one, then_, done, Exact
 use Rattle.odc_lookahead.specs.Read.{refused}
 use Rattle.odc_syntax.specs.Operators.{operator_of}
 use Rattle.odc_lookahead.specs.Sets.{has_rank_from, continues}
-use Rattle.odc_lookahead.specs.StatementSets.{continues_exprs}
+use Rattle.odc_lookahead.specs.stmts.StatementSets.{continues_exprs}
 use Rattle.odc_lookahead.proofs.reading.Opening.{reach_opens}
 use Rattle.odc_lookahead.proofs.reading.Reaching.{behind_part, behind_token}
 use Rattle.odc_lookahead.proofs.reading.Leading.{same_depth, Pending, Led, led_part, led_done, without, at_rest}

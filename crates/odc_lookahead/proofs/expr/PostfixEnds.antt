@@ -24,6 +24,7 @@ use Rattle.odc_lookahead.proofs.expr.SuffixLemmas.{assert_led, dot_broken}
 use Rattle.odc_lookahead.proofs.expr.SuffixAnswers.{nothing_clear}
 use Rattle.odc_lookahead.proofs.expr.PostfixLemmas.{Suffixes, NoSuffix, suffix_begins, suffix_deep, suffix_none}
 use Rattle.odc_lookahead.proofs.expr.EndChains.{ChainTo, chain_to, sure_chain, chain_first_to, chain_more_to, tail_refused_to, tail_comes, at_first_to}
+use Rattle.odc_lookahead.specs.declared.tokens.Fit.TheVariants as fit
 
 -- what has been read of an operand and what stands behind it
 abbrev pub PostfixTo : Mode → ℕ → List Token → Expr → ℕ → List Token → End → Type 0
@@ -99,7 +100,7 @@ deep_behind m d ts v n rest t us o inner led is dot over second paren =
       deeper = tail_comes (links m) led (omega arith) next;
     }
 
-over_by : (m : Mode) (d : ℕ) (ts : List Token) (v : Expr) (n : ℕ) (rest : List Token) (t : Token) (us : List Token) (e : Stop) → PostfixTo m d ts v n rest BeforeDot → d ≤ n → rest ≡ t ∷ us → NotExpected kind.OpenParen false us e → (z : AtDot rest) →
+over_by : (m : Mode) (d : ℕ) (ts : List Token) (v : Expr) (n : ℕ) (rest : List Token) (t : Token) (us : List Token) (e : Stop) → PostfixTo m d ts v n rest BeforeDot → d ≤ n → rest ≡ t ∷ us → NotExpected kind.OpenParen fit.Over us e → (z : AtDot rest) →
     Exact (one (postfix m)) (starts_suffix m) d ts (refused e)
 over_by m d ts v n rest t us (stop.Syntax left) led over is h z =
     let dot : t.kind ≡ kind.Dot = ap (λ (t : Token). t.kind) (first_is (sym z.is ∙ is)) ∙ z.kind in

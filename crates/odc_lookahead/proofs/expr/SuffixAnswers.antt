@@ -32,6 +32,8 @@ use Rattle.odc_lookahead.proofs.expr.BracketLemmas.{call_led, literal_led, Behin
 use Rattle.odc_lookahead.proofs.expr.CutLemmas.{rest_of_cut, index_ends, cut_goes_on, behind_broken, behind_deep, with_high, high_given, high_none}
 use Rattle.odc_lookahead.proofs.expr.FormLemmas.{suffix_kind_is, no_suffix}
 use Rattle.odc_lookahead.proofs.reading.Samples as sample
+use Rattle.odc_lookahead.specs.declared.tokens.Fit.{Fit}
+use Rattle.odc_lookahead.specs.declared.tokens.Fit.TheVariants as fit
 
 -- a token that must come next stops what cannot go on with it
 pub token_clear : {U : Type 0} (cont : TokenKind → Bool) (k : TokenKind) → cont k ≡ false → (g : Part U) (c : ℕ) (u : Token × U) (s : List Sym) → Clear cont (then_ (token k) g c u ++ s)
@@ -106,8 +108,8 @@ assert_read : (m : Mode) (b : ℕ) (t o : Token) (us inner : List Token) (ty : T
 assert_read m b t o us inner ty n after e is f found =
     led_part same_depth (assert_at m b t o us inner e is f) (omega arith) found (λ c u s clear. nothing_clear (then_ (token kind.CloseParen) done c u ++ s))
 
-pub assert_unclosed : (m : Mode) (b : ℕ) (t o : Token) (us inner : List Token) (ty : Type_) (n : ℕ) (after : List Token) (stop : Stop) (within : Bool) → t.kind ≡ kind.Dot → us ≡ o ∷ inner → o.kind ≡ kind.OpenParen →
-    Found (one (g.type_ Plain)) nothing_continues b inner ty n after → (within ≡ false → b < n) → NotExpected kind.CloseParen within after stop → Exact (one (suffix m)) nothing_continues b (t ∷ us) (refused stop)
+pub assert_unclosed : (m : Mode) (b : ℕ) (t o : Token) (us inner : List Token) (ty : Type_) (n : ℕ) (after : List Token) (stop : Stop) (within : Fit) → t.kind ≡ kind.Dot → us ≡ o ∷ inner → o.kind ≡ kind.OpenParen →
+    Found (one (g.type_ Plain)) nothing_continues b inner ty n after → (within ≡ fit.Over → b < n) → NotExpected kind.CloseParen within after stop → Exact (one (suffix m)) nothing_continues b (t ∷ us) (refused stop)
 assert_unclosed m b t o us inner ty n after stop within e is f found over h =
     token_refused kind.CloseParen done stop within same_depth (assert_read m b t o us inner ty n after e is f found) (λ x. let k = over x in omega (arith, k)) h
 
@@ -200,8 +202,8 @@ pub index_deep : (m : Mode) (b : ℕ) (t c : Token) (us : List Token) (x : Expr)
     Found (one (g.expression Free)) (continues Or Free) b us x n after → b < n → after ≡ c ∷ rest → c.kind ≡ kind.CloseBracket → TooDeep (one (suffix m)) nothing_continues b (t ∷ us) (length rest)
 index_deep m b t c us x n after rest e open' found over is k = behind_deep c rest is (inl k) (omega (arith, over)) (index_read m b t us x n after e open' found)
 
-pub colon_refused : (m : Mode) (b : ℕ) (t : Token) (us : List Token) (x : Expr) (n : ℕ) (after : List Token) (stop : Stop) (within : Bool) → t.kind ≡ kind.OpenBracket → StartsWithout kind.Colon us →
-    Found (one (g.expression Free)) (continues Or Free) b us x n after → StartsWithout kind.CloseBracket after → (within ≡ false → b < n) → NotExpected kind.Colon within after stop →
+pub colon_refused : (m : Mode) (b : ℕ) (t : Token) (us : List Token) (x : Expr) (n : ℕ) (after : List Token) (stop : Stop) (within : Fit) → t.kind ≡ kind.OpenBracket → StartsWithout kind.Colon us →
+    Found (one (g.expression Free)) (continues Or Free) b us x n after → StartsWithout kind.CloseBracket after → (within ≡ fit.Over → b < n) → NotExpected kind.Colon within after stop →
     Exact (one (suffix m)) nothing_continues b (t ∷ us) (refused stop)
 colon_refused m b t us x n after (stop.Syntax left) within e open' found closed over h =
     subst (λ (k : ℕ). Broken (one (suffix m)) nothing_continues b (t ∷ us) k) (sym h.0) (behind_broken closed h.1 (index_read m b t us x n after e open' found))
@@ -251,8 +253,8 @@ high_read : (b : ℕ) (ts : List Token) (x : Expr) (n : ℕ) (after : List Token
 high_read b ts x n after open' found =
     led_part same_depth (high_given open' (omega arith) (high_start b ts)) (omega arith) found (λ c u s clear. token_clear (continues Or Free) kind.CloseBracket refl done c u s)
 
-pub high_unclosed : (b : ℕ) (ts : List Token) (x : Expr) (n : ℕ) (after : List Token) (stop : Stop) (within : Bool) → StartsWithout kind.CloseBracket ts → Found (one (g.expression Free)) (continues Or Free) b ts x n after →
-    (within ≡ false → b < n) → NotExpected kind.CloseBracket within after stop → Exact high_line nothing_continues b ts (refused stop)
+pub high_unclosed : (b : ℕ) (ts : List Token) (x : Expr) (n : ℕ) (after : List Token) (stop : Stop) (within : Fit) → StartsWithout kind.CloseBracket ts → Found (one (g.expression Free)) (continues Or Free) b ts x n after →
+    (within ≡ fit.Over → b < n) → NotExpected kind.CloseBracket within after stop → Exact high_line nothing_continues b ts (refused stop)
 high_unclosed b ts x n after stop within open' found over h =
     token_refused kind.CloseBracket done stop within same_depth (high_read b ts x n after open' found) (λ e. let k = over e in omega (arith, k)) h
 

@@ -14,9 +14,9 @@ use Rattle.odc_lookahead.specs.declared.stop.Stop.{Stop}
 use Rattle.odc_lookahead.specs.declared.stop.Stop.TheVariants as stop
 use Rattle.odc_lookahead.specs.Exact.{size, Clear, Part, one, ComesAt, Comes, then_, token, Exact, Yes, Found, Broken, TooDeep}
 use Rattle.odc_lookahead.specs.Read.{refused}
-use Rattle.odc_lookahead.specs.Clauses.{Clause, declared, assigned, alone, clause_then}
+use Rattle.odc_lookahead.specs.stmts.Clauses.{Clause, declared, assigned, alone, clause_then}
 use Rattle.odc_lookahead.specs.Sets.{continues}
-use Rattle.odc_lookahead.specs.StatementSets.{continues_simple, continues_head, continues_clause}
+use Rattle.odc_lookahead.specs.stmts.StatementSets.{continues_simple, continues_head, continues_clause}
 use Rattle.odc_lookahead.proofs.reading.Reaching.{along}
 use Rattle.odc_lookahead.proofs.reading.Leading.{Rises, Led}
 use Rattle.odc_lookahead.proofs.reading.Answering.{Stepped}

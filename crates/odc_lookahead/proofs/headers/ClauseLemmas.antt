@@ -14,10 +14,10 @@ use Rattle.odc_syntax.specs.Derives.{Reach, here}
 use Rattle.odc_lookahead.specs.declared.stop.Stop.{Stop}
 use Rattle.odc_lookahead.specs.Exact.{size, Clear, Part, one, then_, token, Exact, Yes, Found}
 use Rattle.odc_lookahead.specs.Read.{refused, NotExpected}
-use Rattle.odc_lookahead.specs.Clauses.{Clause, declared, assigned, alone, clause_then}
-use Rattle.odc_lookahead.specs.Runs.{Declares}
+use Rattle.odc_lookahead.specs.stmts.Clauses.{Clause, declared, assigned, alone, clause_then}
+use Rattle.odc_lookahead.specs.stmts.Runs.{Declares}
 use Rattle.odc_lookahead.specs.Sets.{continues}
-use Rattle.odc_lookahead.specs.StatementSets.{continues_simple, continues_declaration, continues_head, EndsClause}
+use Rattle.odc_lookahead.specs.stmts.StatementSets.{continues_simple, continues_declaration, continues_head, EndsClause}
 use Rattle.odc_lookahead.proofs.reading.Leading.{Rises, Led}
 use Rattle.odc_lookahead.proofs.reading.Answering.{token_refused, token_read, Stepped}
 use Rattle.odc_lookahead.proofs.expr.SuffixAnswers.{token_clear}
@@ -28,6 +28,8 @@ use Rattle.odc_lookahead.proofs.headers.HeadExpressions.{single_beyond, HeadExpr
 use Rattle.odc_lookahead.proofs.reading.Within.{leads_within}
 use Rattle.odc_lookahead.proofs.reading.Deciding.{Leads, leads_less, leads_part, leads_part_refused, leads_led}
 use Rattle.odc_lookahead.proofs.reading.Samples as sample
+use Rattle.odc_lookahead.specs.declared.tokens.Fit.{Fit}
+use Rattle.odc_lookahead.specs.declared.tokens.Fit.TheVariants as fit
 
 module _ {V U : Type 0} {p : Part V} {cont : TokenKind → Bool} {up : ℕ → ℕ} {b : ℕ} {ts ws : List Token} (bare closed : Part U) {f : Clause × U → V} (rises : Rises up)
     (stops : (c : ℕ) (u : U) (s : List Sym) → Clear cont s → Clear continues_head (bare c u ++ s)) {far : ℕ} (led : Leads p cont up b ws (clause_then bare closed) f 0 ts far) where
@@ -76,7 +78,7 @@ module _ {V U : Type 0} {p : Part V} {cont : TokenKind → Bool} {up : ℕ → �
       zero_max : max 0 n ≡ n
       zero_max = omega arith
 
-  pub clause_unclosed : (k : Token → Clause) (n : ℕ) (rest : List Token) (e : Stop) (within : Bool) → ClauseAt k n rest → (within ≡ false → b < n) → NotExpected kind.Semicolon within rest e → Exact p cont (up b) ws (refused e)
+  pub clause_unclosed : (k : Token → Clause) (n : ℕ) (rest : List Token) (e : Stop) (within : Fit) → ClauseAt k n rest → (within ≡ fit.Over → b < n) → NotExpected kind.Semicolon within rest e → Exact p cont (up b) ws (refused e)
   clause_unclosed k n rest e within read over h = token_refused kind.Semicolon closed e within rises read over h
 
   pub clause_closed : (k : Token → Clause) (n : ℕ) (rest : List Token) (t : Token) (us : List Token) → ClauseAt k n rest → n ≤ b → rest ≡ t ∷ us → t.kind ≡ kind.Semicolon → Led p cont up b ws closed (λ u. f (k t, u)) n us

@@ -15,7 +15,7 @@ use Rattle.odc_syntax.specs.Derives.{Reach, here, read, write}
 use Rattle.odc_lookahead.specs.declared.stop.Stop.TheVariants as stop
 use Rattle.odc_lookahead.specs.Exact.{size, one, Exact, Found, TooDeep, ComesAt}
 use Rattle.odc_lookahead.specs.Exact as exact
-use Rattle.odc_lookahead.specs.LoopStarts.{Signed, plain, signed, cost}
+use Rattle.odc_lookahead.specs.stmts.LoopStarts.{Signed, plain, signed, cost}
 use Rattle.odc_lookahead.specs.Read.{unary_form}
 use Rattle.odc_lookahead.specs.Sets.{has_rank_from, starts_suffix, continues}
 use Rattle.odc_lookahead.proofs.reading.Opening.{First}

@@ -11,9 +11,9 @@ use Rattle.odc_syntax.specs.Grammar as g
 use Rattle.odc_syntax.specs.Derives.{StartsWithout}
 use Rattle.odc_syntax.specs.Operators.{assignment_of}
 use Rattle.odc_lookahead.specs.Exact.{one, Found}
-use Rattle.odc_lookahead.specs.Headers.{GoesOn, ClosedFrom, declared, listed, begun, ConditionFrom, closed, evaluated}
+use Rattle.odc_lookahead.specs.stmts.Headers.{GoesOn, ClosedFrom, declared, listed, begun, ConditionFrom, closed, evaluated}
 use Rattle.odc_lookahead.specs.Sets.{continues}
-use Rattle.odc_lookahead.specs.StatementSets.{continues_simple, continues_clause, NoAssignment}
+use Rattle.odc_lookahead.specs.stmts.StatementSets.{continues_simple, continues_clause, NoAssignment}
 use Rattle.odc_lookahead.proofs.reading.Deciding.{lower_found}
 use Rattle.odc_lookahead.proofs.expr.ExprsLemmas.{exprs_alone}
 use Rattle.odc_lookahead.proofs.stmts.SimpleLemmas.{eval_found}

@@ -16,10 +16,10 @@ use Rattle.odc_lookahead.specs.declared.stop.Stop.{Stop}
 use Rattle.odc_lookahead.specs.declared.stop.Stop.TheVariants as stop
 use Rattle.odc_lookahead.specs.Exact.{size, Clear, one, ComesAt, Comes, then_, done, token, Exact, Answer, Yes, Found, Broken, TooDeep}
 use Rattle.odc_lookahead.specs.Read.{refused}
-use Rattle.odc_lookahead.specs.BodyParts.{head_line}
-use Rattle.odc_lookahead.specs.Runs.{Undeclared, unnamed, ended}
+use Rattle.odc_lookahead.specs.stmts.BodyParts.{head_line}
+use Rattle.odc_lookahead.specs.stmts.Runs.{Undeclared, unnamed, ended}
 use Rattle.odc_lookahead.specs.Sets.{continues}
-use Rattle.odc_lookahead.specs.StatementSets.{is_assignment, continues_exprs, continues_simple, continues_head, continues_clause, EndsClause}
+use Rattle.odc_lookahead.specs.stmts.StatementSets.{is_assignment, continues_exprs, continues_simple, continues_head, continues_clause, EndsClause}
 use Rattle.odc_lookahead.proofs.reading.Opening.{reach_opens, First, StartsWith}
 use Rattle.odc_lookahead.proofs.reading.Reaching.{along, behind_part}
 use Rattle.odc_lookahead.proofs.reading.Leading.{same_depth, Pending, led_done}

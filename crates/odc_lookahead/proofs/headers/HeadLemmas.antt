@@ -15,10 +15,10 @@ use Rattle.odc_lookahead.specs.declared.stop.Stop.{Stop}
 use Rattle.odc_lookahead.specs.declared.stop.Stop.TheVariants as stop
 use Rattle.odc_lookahead.specs.Exact.{size, Clear, Part, one, then_, done, token, Exact, Yes, Found}
 use Rattle.odc_lookahead.specs.Read.{refused, NotExpected}
-use Rattle.odc_lookahead.specs.BodyParts.{head_line}
-use Rattle.odc_lookahead.specs.Runs.{Declares, named, listed, Undeclared, again}
+use Rattle.odc_lookahead.specs.stmts.BodyParts.{head_line}
+use Rattle.odc_lookahead.specs.stmts.Runs.{Declares, named, listed, Undeclared, again}
 use Rattle.odc_lookahead.specs.Sets.{continues}
-use Rattle.odc_lookahead.specs.StatementSets.{continues_simple, continues_declaration, continues_head}
+use Rattle.odc_lookahead.specs.stmts.StatementSets.{continues_simple, continues_declaration, continues_head}
 use Rattle.odc_lookahead.proofs.reading.Opening.{reach_opens}
 use Rattle.odc_lookahead.proofs.reading.Reaching.{behind_part}
 use Rattle.odc_lookahead.proofs.reading.Leading.{same_depth, Pending, Led, led_part, led_done}
@@ -31,6 +31,8 @@ use Rattle.odc_lookahead.proofs.stmts.SimpleLemmas.{goes_on_simple}
 use Rattle.odc_lookahead.proofs.stmts.RunLemmas.{run_short, declares_short, not_declared, not_simple, simple_beyond, declaration_beyond}
 use Rattle.odc_lookahead.proofs.reading.Deciding.{stop_limit, Leads, leads_start, leads_less, leads_part, leads_part_refused, leads_led}
 use Rattle.odc_lookahead.proofs.reading.Samples as sample
+use Rattle.odc_lookahead.specs.declared.tokens.Fit.{Fit}
+use Rattle.odc_lookahead.specs.declared.tokens.Fit.TheVariants as fit
 
 pub head_goes : (k : TokenKind) → continues_simple mode.Header k ≡ true → continues_head k ≡ true
 head_goes kind.Semicolon e = refl
@@ -137,7 +139,7 @@ head_declared b ts rest v n after some d found =
     zero_max : max 0 n ≡ n
     zero_max = omega arith
 
-pub head_unclosed : (b : ℕ) (ts : List Token) (h : Header) (n : ℕ) (rest : List Token) (e : Stop) (within : Bool) → ClosedAt b ts h n rest → (within ≡ false → b < n) → NotExpected kind.Semicolon within rest e → Exact head_line continues_head b ts (refused e)
+pub head_unclosed : (b : ℕ) (ts : List Token) (h : Header) (n : ℕ) (rest : List Token) (e : Stop) (within : Fit) → ClosedAt b ts h n rest → (within ≡ fit.Over → b < n) → NotExpected kind.Semicolon within rest e → Exact head_line continues_head b ts (refused e)
 head_unclosed b ts h n rest e within led over k = token_refused kind.Semicolon condition_line e within same_depth led over k
 
 -- the `;` is read, and the condition must follow

@@ -13,10 +13,10 @@ use Rattle.odc_syntax.specs.Grammar.{Sym, tok, names_one, declare_inferred}
 use Rattle.odc_syntax.specs.Grammar as g
 use Rattle.odc_syntax.specs.Derives.{Reach, here, read, write}
 use Rattle.odc_lookahead.specs.Exact.{size, Clear, Part, ComesAt, Comes}
-use Rattle.odc_lookahead.specs.Clauses.{Clause, declared, assigned, alone, clause_then}
-use Rattle.odc_lookahead.specs.Headers.{GoesOn}
+use Rattle.odc_lookahead.specs.stmts.Clauses.{Clause, declared, assigned, alone, clause_then}
+use Rattle.odc_lookahead.specs.stmts.Headers.{GoesOn}
 use Rattle.odc_lookahead.specs.Sets.{continues}
-use Rattle.odc_lookahead.specs.StatementSets.{is_assignment, continues_exprs, continues_head}
+use Rattle.odc_lookahead.specs.stmts.StatementSets.{is_assignment, continues_exprs, continues_head}
 use Rattle.odc_lookahead.proofs.reading.Reaching.{along}
 use Rattle.odc_lookahead.proofs.reading.Leading.{Rises}
 use Rattle.odc_lookahead.proofs.expr.WholeLemmas.{name_whole, name_deep, costs_expression, Ends}

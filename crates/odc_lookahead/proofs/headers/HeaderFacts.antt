@@ -2,7 +2,7 @@
 use Rattle.std.proofs.Common.{ℕ, List, ◌∷◌, refl}
 use Rattle.odc_syntax.specs.declared.token.Token.{Token}
 use Rattle.odc_syntax.specs.Tree.{Expr}
-use Rattle.odc_lookahead.specs.Headers as header
+use Rattle.odc_lookahead.specs.stmts.Headers as header
 use Rattle.odc_lookahead.proofs.headers.HeadExpressions.{Single, single_none, single_name, HeadExpression}
 use Rattle.odc_lookahead.proofs.headers.HeadLemmas.{Listed}
 

@@ -9,7 +9,7 @@ use Rattle.odc_lookahead.specs.declared.stop.Stop.{Stop}
 use Rattle.odc_lookahead.specs.declared.stop.Stop.TheVariants as stop
 use Rattle.odc_lookahead.specs.Exact.{size, Clear, Part, ComesAt, Comes, Exact}
 use Rattle.odc_lookahead.specs.Read.{refused}
-use Rattle.odc_lookahead.specs.Clauses.{Clause, clause_then}
+use Rattle.odc_lookahead.specs.stmts.Clauses.{Clause, clause_then}
 use Rattle.odc_lookahead.proofs.reading.Reaching.{along}
 use Rattle.odc_lookahead.proofs.reading.Leading.{Rises}
 use Rattle.odc_lookahead.proofs.reading.Deciding.{stop_limit, Leads}

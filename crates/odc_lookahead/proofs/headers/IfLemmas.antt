@@ -11,8 +11,8 @@ use Rattle.odc_syntax.specs.Derives.{Reach, here, read, see_not, write, StartsWi
 use Rattle.odc_lookahead.specs.declared.stop.Stop.{Stop}
 use Rattle.odc_lookahead.specs.Exact.{size, Clear, Part, one, then_, done, behind, Exact, Found, Broken, TooDeep}
 use Rattle.odc_lookahead.specs.Read.{refused}
-use Rattle.odc_lookahead.specs.BodyParts.{head_line}
-use Rattle.odc_lookahead.specs.StatementSets.{continues_statement, continues_head}
+use Rattle.odc_lookahead.specs.stmts.BodyParts.{head_line}
+use Rattle.odc_lookahead.specs.stmts.StatementSets.{continues_statement, continues_head}
 use Rattle.odc_lookahead.proofs.reading.Opening.{reach_opens, StartsWith, is_body}
 use Rattle.odc_lookahead.proofs.reading.Reaching.{behind_part, behind_token, behind_not_next}
 use Rattle.odc_lookahead.proofs.reading.Leading.{one_deeper, Pending, Led, led_part, led_done, first_is, without, at_rest}

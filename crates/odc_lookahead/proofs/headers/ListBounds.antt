@@ -15,9 +15,9 @@ use Rattle.odc_syntax.specs.Grammar as g
 use Rattle.odc_syntax.specs.Derives.{Reach, here, read, write}
 use Rattle.odc_lookahead.specs.declared.stop.Stop.TheVariants as stop
 use Rattle.odc_lookahead.specs.Exact.{size, Clear, one, Found}
-use Rattle.odc_lookahead.specs.RunBounds.{Run, item, again, continues_closed, EndsClosed, LastOver, unread, ended, over}
+use Rattle.odc_lookahead.specs.stmts.RunBounds.{Run, item, again, continues_closed, EndsClosed, LastOver, unread, ended, over}
 use Rattle.odc_lookahead.specs.Sets.{continues}
-use Rattle.odc_lookahead.specs.StatementSets.{is_assignment, continues_exprs}
+use Rattle.odc_lookahead.specs.stmts.StatementSets.{is_assignment, continues_exprs}
 use Rattle.odc_lookahead.proofs.reading.Leading.{at_rest}
 use Rattle.odc_lookahead.proofs.reading.Opening.{reach_opens, First, StartsWith}
 use Rattle.odc_lookahead.proofs.reading.Reaching.{along, behind_part, behind_token}

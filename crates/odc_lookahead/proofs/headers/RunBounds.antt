@@ -13,15 +13,15 @@ use Rattle.odc_syntax.specs.Grammar as g
 use Rattle.odc_syntax.specs.Derives.{Reach, here, read, write}
 use Rattle.odc_lookahead.specs.declared.stop.Stop.{Stop}
 use Rattle.odc_lookahead.specs.declared.stop.Stop.TheVariants as stop
-use Rattle.odc_lookahead.specs.BodyParts.{head_line}
-use Rattle.odc_lookahead.specs.Clauses.{Clause, declared, assigned, alone, clause_then}
+use Rattle.odc_lookahead.specs.stmts.BodyParts.{head_line}
+use Rattle.odc_lookahead.specs.stmts.Clauses.{Clause, declared, assigned, alone, clause_then}
 use Rattle.odc_lookahead.specs.Exact.{size, Clear, Part, one, Comes, Found, then_, done, Exact}
 use Rattle.odc_lookahead.specs.Read.{refused}
-use Rattle.odc_lookahead.specs.RunBounds.{Run, item, again, LastOver, unread, ended, over, RunOver}
-use Rattle.odc_lookahead.specs.Runs.{Undeclared}
-use Rattle.odc_lookahead.specs.Runs as runs
+use Rattle.odc_lookahead.specs.stmts.RunBounds.{Run, item, again, LastOver, unread, ended, over, RunOver}
+use Rattle.odc_lookahead.specs.stmts.Runs.{Undeclared}
+use Rattle.odc_lookahead.specs.stmts.Runs as runs
 use Rattle.odc_lookahead.specs.Sets.{continues}
-use Rattle.odc_lookahead.specs.StatementSets.{continues_head}
+use Rattle.odc_lookahead.specs.stmts.StatementSets.{continues_head}
 use Rattle.odc_lookahead.proofs.reading.Reaching.{along, behind_part}
 use Rattle.odc_lookahead.proofs.reading.Leading.{Rises, same_depth, Pending}
 use Rattle.odc_lookahead.proofs.expr.WholeLemmas.{name_whole, costs_expression}

@@ -14,13 +14,13 @@ use Rattle.odc_lookahead.specs.declared.stop.Stop.TheVariants as stop
 use Rattle.odc_lookahead.specs.Exact.{size, Clear, Part, one, then_, Exact, Found, Broken, TooDeep}
 use Rattle.odc_lookahead.specs.Read.{refused}
 use Rattle.odc_lookahead.specs.Sets.{starts_expression}
-use Rattle.odc_lookahead.specs.StatementSets.{continues_simple}
+use Rattle.odc_lookahead.specs.stmts.StatementSets.{continues_simple}
 use Rattle.odc_lookahead.proofs.reading.Opening.{reach_opens, is_body}
 use Rattle.odc_lookahead.proofs.reading.Reaching.{behind_part}
 use Rattle.odc_lookahead.proofs.reading.Leading.{Rises, same_depth, Led}
 use Rattle.odc_lookahead.proofs.reading.Answering.{led_over, Stepped}
 use Rattle.odc_lookahead.proofs.stmts.StatementLemmas.{some_stmt}
-use Rattle.odc_lookahead.specs.Loops.{after_line}
+use Rattle.odc_lookahead.specs.stmts.Loops.{after_line}
 use Rattle.odc_lookahead.proofs.reading.Deciding.{led_here}
 use Rattle.odc_lookahead.proofs.reading.Optional.{OpensBy, Turns, Into, optional_found, optional_refused}
 use Rattle.odc_lookahead.proofs.reading.Samples as sample

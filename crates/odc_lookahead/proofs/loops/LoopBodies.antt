@@ -6,7 +6,7 @@ use Rattle.odc_syntax.specs.Tree.{Stmts}
 use Rattle.odc_syntax.specs.Grammar.{Sym}
 use Rattle.odc_syntax.specs.Grammar as g
 use Rattle.odc_lookahead.specs.Exact.{Clear}
-use Rattle.odc_lookahead.specs.StatementSets.{continues_head}
+use Rattle.odc_lookahead.specs.stmts.StatementSets.{continues_head}
 use Rattle.odc_lookahead.proofs.reading.Opening.{reach_opens, is_body}
 
 body_stops : (k : TokenKind) → is_body k ≡ true → continues_head k ≡ false

@@ -18,19 +18,19 @@ use Rattle.odc_syntax.specs.Grammar as g
 use Rattle.odc_syntax.specs.Derives.{Reach, here, read, write, StartsWithout}
 use Rattle.odc_lookahead.specs.declared.stop.Stop.{Stop}
 use Rattle.odc_lookahead.specs.declared.stop.Stop.TheVariants as stop
-use Rattle.odc_lookahead.specs.Clauses.{Clause, declared, assigned, alone, clause_then}
+use Rattle.odc_lookahead.specs.stmts.Clauses.{Clause, declared, assigned, alone, clause_then}
 use Rattle.odc_lookahead.specs.Exact.{size, one, Comes, Exact, Broken, TooDeep}
-use Rattle.odc_lookahead.specs.Loops.{Steps, body_alone, steps_line, ranged, looped}
-use Rattle.odc_lookahead.specs.LoopStarts as start
-use Rattle.odc_lookahead.specs.LoopStarts.{cost, list_cost}
-use Rattle.odc_lookahead.specs.LoopStarts.{Signed, plain, signed, OneName, MoreNames, Unranged, goes_one, EndsOne, OneOver, MoreOver}
+use Rattle.odc_lookahead.specs.stmts.Loops.{Steps, body_alone, steps_line, ranged, looped}
+use Rattle.odc_lookahead.specs.stmts.LoopStarts as start
+use Rattle.odc_lookahead.specs.stmts.LoopStarts.{cost, list_cost}
+use Rattle.odc_lookahead.specs.stmts.LoopStarts.{Signed, plain, signed, OneName, MoreNames, Unranged, goes_one, EndsOne, OneOver, MoreOver}
 use Rattle.odc_lookahead.specs.Read.{refused, unary_form}
-use Rattle.odc_lookahead.specs.RunBounds.{item, continues_closed, LastOver}
-use Rattle.odc_lookahead.specs.RunBounds as bound
-use Rattle.odc_lookahead.specs.Runs as runs
+use Rattle.odc_lookahead.specs.stmts.RunBounds.{item, continues_closed, LastOver}
+use Rattle.odc_lookahead.specs.stmts.RunBounds as bound
+use Rattle.odc_lookahead.specs.stmts.Runs as runs
 use Rattle.odc_lookahead.specs.Sets.{starts_suffix, continues}
-use Rattle.odc_lookahead.specs.Statements.{labelled_part}
-use Rattle.odc_lookahead.specs.StatementSets.{continues_exprs, continues_simple, continues_statement, continues_head, continues_clause}
+use Rattle.odc_lookahead.specs.stmts.Statements.{labelled_part}
+use Rattle.odc_lookahead.specs.stmts.StatementSets.{continues_exprs, continues_simple, continues_statement, continues_head, continues_clause}
 use Rattle.odc_lookahead.proofs.reading.Opening.{reach_opens, First, is_body}
 use Rattle.odc_lookahead.proofs.reading.Reaching.{along}
 use Rattle.odc_lookahead.proofs.reading.Leading.{same_depth}

@@ -13,17 +13,17 @@ use Rattle.odc_syntax.specs.Tree as tree
 use Rattle.odc_syntax.specs.Grammar.{Sym, tok, Rule, variables_one, variables_two, references_one, references_two}
 use Rattle.odc_syntax.specs.Grammar as g
 use Rattle.odc_syntax.specs.Derives.{Reach, here, read, write, StartsWithout}
-use Rattle.odc_lookahead.specs.Clauses.{Clause, alone, clause_then}
+use Rattle.odc_lookahead.specs.stmts.Clauses.{Clause, alone, clause_then}
 use Rattle.odc_lookahead.specs.Exact.{size, one, Exact, Answer}
-use Rattle.odc_lookahead.specs.Headers as header
-use Rattle.odc_lookahead.specs.Loops.{Steps, body_alone, steps_line, Looped, ever, clause, stepped, ranged, looped_line, looped}
-use Rattle.odc_lookahead.specs.LoopStarts as start
-use Rattle.odc_lookahead.specs.LoopStarts.{Signed, plain, signed, OneName, MoreNames, Unranged, asks}
-use Rattle.odc_lookahead.specs.Runs.{Declares, Undeclared}
-use Rattle.odc_lookahead.specs.Runs as runs
+use Rattle.odc_lookahead.specs.stmts.Headers as header
+use Rattle.odc_lookahead.specs.stmts.Loops.{Steps, body_alone, steps_line, Looped, ever, clause, stepped, ranged, looped_line, looped}
+use Rattle.odc_lookahead.specs.stmts.LoopStarts as start
+use Rattle.odc_lookahead.specs.stmts.LoopStarts.{Signed, plain, signed, OneName, MoreNames, Unranged, asks}
+use Rattle.odc_lookahead.specs.stmts.Runs.{Declares, Undeclared}
+use Rattle.odc_lookahead.specs.stmts.Runs as runs
 use Rattle.odc_lookahead.specs.Sets.{continues}
-use Rattle.odc_lookahead.specs.Statements.{labelled_part}
-use Rattle.odc_lookahead.specs.StatementSets.{continues_statement}
+use Rattle.odc_lookahead.specs.stmts.Statements.{labelled_part}
+use Rattle.odc_lookahead.specs.stmts.StatementSets.{continues_statement}
 use Rattle.odc_lookahead.proofs.reading.Leading.{at_rest}
 use Rattle.odc_lookahead.proofs.reading.Opening.{reach_opens, First, StartsWith, is_body}
 use Rattle.odc_lookahead.proofs.reading.Reaching.{behind_part, behind_token}

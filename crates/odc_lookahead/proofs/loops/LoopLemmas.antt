@@ -11,13 +11,13 @@ use Rattle.odc_syntax.specs.Grammar.{Sym, tok, Rule, Labelled}
 use Rattle.odc_syntax.specs.Grammar as g
 use Rattle.odc_syntax.specs.Derives.{Reach, here, read, write}
 use Rattle.odc_lookahead.specs.declared.stop.Stop.{Stop}
-use Rattle.odc_lookahead.specs.Clauses.{declared, assigned, alone}
+use Rattle.odc_lookahead.specs.stmts.Clauses.{declared, assigned, alone}
 use Rattle.odc_lookahead.specs.Exact.{size, one, Exact, Found}
-use Rattle.odc_lookahead.specs.Loops.{Steps, steps_line, Looped, ever, clause, stepped, ranged, looped_line, looped}
+use Rattle.odc_lookahead.specs.stmts.Loops.{Steps, steps_line, Looped, ever, clause, stepped, ranged, looped_line, looped}
 use Rattle.odc_lookahead.specs.Read.{refused}
 use Rattle.odc_lookahead.specs.Sets.{starts_expression, starts_variables}
-use Rattle.odc_lookahead.specs.Statements.{labelled_part}
-use Rattle.odc_lookahead.specs.StatementSets.{continues_statement}
+use Rattle.odc_lookahead.specs.stmts.Statements.{labelled_part}
+use Rattle.odc_lookahead.specs.stmts.StatementSets.{continues_statement}
 use Rattle.odc_lookahead.proofs.reading.Opening.{reach_opens, is_body, is_switch}
 use Rattle.odc_lookahead.proofs.reading.Reaching.{behind_part, behind_token}
 use Rattle.odc_lookahead.proofs.reading.Leading.{same_depth, Pending, Led, first_is, at_rest}

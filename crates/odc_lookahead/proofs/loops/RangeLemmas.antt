@@ -13,17 +13,17 @@ use Rattle.odc_syntax.specs.Grammar.{Sym, tok, Rule, Labelled, variables_one, va
 use Rattle.odc_syntax.specs.Grammar as g
 use Rattle.odc_syntax.specs.Derives.{Reach, here, read, write}
 use Rattle.odc_lookahead.specs.declared.stop.Stop.{Stop}
-use Rattle.odc_lookahead.specs.Clauses.{declared, assigned, alone}
+use Rattle.odc_lookahead.specs.stmts.Clauses.{declared, assigned, alone}
 use Rattle.odc_lookahead.specs.Exact.{size, Clear, Part, one, Exact, Found, then_}
-use Rattle.odc_lookahead.specs.LoopStarts as start
-use Rattle.odc_lookahead.specs.LoopStarts.{cost}
-use Rattle.odc_lookahead.specs.LoopStarts.{Signed, plain, signed, Ranged}
-use Rattle.odc_lookahead.specs.Loops.{steps_line, Looped, ever, clause, stepped, ranged, looped_line}
+use Rattle.odc_lookahead.specs.stmts.LoopStarts as start
+use Rattle.odc_lookahead.specs.stmts.LoopStarts.{cost}
+use Rattle.odc_lookahead.specs.stmts.LoopStarts.{Signed, plain, signed, Ranged}
+use Rattle.odc_lookahead.specs.stmts.Loops.{steps_line, Looped, ever, clause, stepped, ranged, looped_line}
 use Rattle.odc_lookahead.specs.Read.{refused}
 use Rattle.odc_lookahead.specs.Sets.{continues}
-use Rattle.odc_lookahead.specs.Statements.{labelled_part}
-use Rattle.odc_lookahead.specs.StatementSets.{continues_statement, continues_clause}
-use Rattle.odc_lookahead.specs.SwitchSets.{continues_span}
+use Rattle.odc_lookahead.specs.stmts.Statements.{labelled_part}
+use Rattle.odc_lookahead.specs.stmts.StatementSets.{continues_statement, continues_clause}
+use Rattle.odc_lookahead.specs.stmts.SwitchSets.{continues_span}
 use Rattle.odc_lookahead.proofs.reading.Opening.{reach_opens, First, StartsWith, is_body}
 use Rattle.odc_lookahead.proofs.reading.Reaching.{behind_part, behind_token}
 use Rattle.odc_lookahead.proofs.reading.Leading.{same_depth, Led, led_part, first_is, at_rest}
@@ -36,8 +36,8 @@ use Rattle.odc_lookahead.proofs.stmts.RunLemmas.{run_short, not_declared}
 use Rattle.odc_lookahead.proofs.headers.FrontLemmas.{front_found, value_of}
 use Rattle.odc_lookahead.proofs.headers.HeadExpressions.{clause_goes}
 use Rattle.odc_lookahead.proofs.headers.ListBounds.{simple_none}
-use Rattle.odc_lookahead.specs.RunBounds.{item, ended, continues_closed}
-use Rattle.odc_lookahead.specs.Runs as runs
+use Rattle.odc_lookahead.specs.stmts.RunBounds.{item, ended, continues_closed}
+use Rattle.odc_lookahead.specs.stmts.Runs as runs
 use Rattle.odc_lookahead.proofs.reading.Samples as sample
 
 -- the variables are read

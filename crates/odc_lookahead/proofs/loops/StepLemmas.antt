@@ -13,7 +13,7 @@ use Rattle.odc_syntax.specs.Derives.{Reach, here, write}
 use Rattle.odc_lookahead.specs.declared.stop.Stop.{Stop}
 use Rattle.odc_lookahead.specs.declared.stop.Stop.TheVariants as stop
 use Rattle.odc_lookahead.specs.Exact.{size, Clear, Part, one, then_, token, Exact, Found, Broken}
-use Rattle.odc_lookahead.specs.Loops.{Steps, steps_line, after_line}
+use Rattle.odc_lookahead.specs.stmts.Loops.{Steps, steps_line, after_line}
 use Rattle.odc_lookahead.specs.Read.{refused, NotExpected}
 use Rattle.odc_lookahead.specs.Sets.{starts_expression, continues}
 use Rattle.odc_lookahead.proofs.reading.Opening.{reach_opens}
@@ -24,6 +24,8 @@ use Rattle.odc_lookahead.proofs.expr.SuffixAnswers.{token_clear}
 use Rattle.odc_lookahead.proofs.reading.Deciding.{led_here}
 use Rattle.odc_lookahead.proofs.reading.Optional.{OpensBy, Turns, Into, optional_found, optional_refused}
 use Rattle.odc_lookahead.proofs.reading.Samples as sample
+use Rattle.odc_lookahead.specs.declared.tokens.Fit.{Fit}
+use Rattle.odc_lookahead.specs.declared.tokens.Fit.TheVariants as fit
 
 -- behind the condition
 abbrev pub semicolon_line : Part (Token × (MaybeStmt × Stmts))
@@ -82,7 +84,7 @@ module _ {V : Type 0} {p : Part V} {cont : TokenKind → Bool} {b : ℕ} {ts : L
       (λ c u s s' ts' clear r h. let z = behind_part tt r h in none_by rest broken c u.0 u.1 z.as_symbols z.rule s (condition_clear c u.1 s clear) z.reach h) led
 
   -- its `;`
-  pub steps_unclosed : (f : Token × (MaybeStmt × Stmts) → V) (n : ℕ) (rest : List Token) (e : Stop) (within : Bool) → Led p cont (λ n. n) b ts semicolon_line f n rest → (within ≡ false → b < n) → NotExpected kind.Semicolon within rest e → Exact p cont b ts (refused e)
+  pub steps_unclosed : (f : Token × (MaybeStmt × Stmts) → V) (n : ℕ) (rest : List Token) (e : Stop) (within : Fit) → Led p cont (λ n. n) b ts semicolon_line f n rest → (within ≡ fit.Over → b < n) → NotExpected kind.Semicolon within rest e → Exact p cont b ts (refused e)
   steps_unclosed f n rest e within led over h = token_refused kind.Semicolon after_line e within same_depth led over h
 
   pub steps_closed : (f : Token × (MaybeStmt × Stmts) → V) (n : ℕ) (rest : List Token) (t : Token) (us : List Token) → Led p cont (λ n. n) b ts semicolon_line f n rest → n ≤ b → rest ≡ t ∷ us → t.kind ≡ kind.Semicolon → Led p cont (λ n. n) b ts after_line (λ u. f (t, u)) n us

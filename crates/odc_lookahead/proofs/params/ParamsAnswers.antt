@@ -11,7 +11,7 @@ use Rattle.odc_syntax.specs.Grammar as g
 use Rattle.odc_syntax.specs.Derives.{Reach, here, read, see_not, write, StartsWithout}
 use Rattle.odc_lookahead.specs.Exact.{size, ComesAt, Comes, Exact, Answer}
 use Rattle.odc_lookahead.specs.ParamForms.{Front, plain, dollar}
-use Rattle.odc_lookahead.specs.Runs.{Declares, named, listed, Undeclared, unnamed, ended, again}
+use Rattle.odc_lookahead.specs.stmts.Runs.{Declares, named, listed, Undeclared, unnamed, ended, again}
 use Rattle.odc_lookahead.specs.Sets.{nothing_continues}
 use Rattle.odc_lookahead.specs.TypeParts.{params_line, named_params, bare_params, named_line, bare_line}
 use Rattle.odc_lookahead.specs.Exact.{then_, done, token}

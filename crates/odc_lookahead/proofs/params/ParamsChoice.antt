@@ -11,7 +11,7 @@ use Rattle.odc_syntax.specs.Grammar as g
 use Rattle.odc_syntax.specs.Derives.{Reach, here, StartsWithout}
 use Rattle.odc_lookahead.specs.Exact.{size, Part, Comes, Exact, Answer, Yes, Syntax, Deep, NoMemory}
 use Rattle.odc_lookahead.specs.ParamForms.{Front, plain, dollar}
-use Rattle.odc_lookahead.specs.Runs.{Declares, named, listed, Undeclared, unnamed, ended, again}
+use Rattle.odc_lookahead.specs.stmts.Runs.{Declares, named, listed, Undeclared, unnamed, ended, again}
 use Rattle.odc_lookahead.specs.Sets.{starts_constructed, nothing_continues}
 use Rattle.odc_lookahead.proofs.reading.Opening.{reach_opens, StartsWith}
 use Rattle.odc_lookahead.proofs.reading.Reaching.{along, behind_token, behind_part, behind_not_next}

@@ -13,7 +13,7 @@ use Rattle.odc_syntax.specs.Grammar as g
 use Rattle.odc_syntax.specs.Derives.{Reach, here, read, read_said, see, see_not, see_no_member, write}
 use Rattle.odc_lookahead.specs.Exact.{Found}
 use Rattle.odc_lookahead.specs.ParamForms.{Front, plain, dollar}
-use Rattle.odc_lookahead.specs.Runs.{Undeclared, unnamed, ended, again}
+use Rattle.odc_lookahead.specs.stmts.Runs.{Undeclared, unnamed, ended, again}
 use Rattle.odc_lookahead.specs.Sets.{nothing_continues}
 use Rattle.odc_lookahead.specs.TypeParts.{bare_params, bare_line}
 use Rattle.odc_lookahead.proofs.expr.SuffixAnswers.{nothing_clear}

@@ -17,7 +17,7 @@ use Rattle.odc_lookahead.specs.declared.stop.Stop.TheVariants as stop
 use Rattle.odc_lookahead.specs.Exact.{Part, one, Exact, Answer, Found, Broken}
 use Rattle.odc_lookahead.specs.Read.{refused, StartsWith}
 use Rattle.odc_lookahead.specs.ParamForms.{Front, Crossed}
-use Rattle.odc_lookahead.specs.Runs.{Undeclared}
+use Rattle.odc_lookahead.specs.stmts.Runs.{Undeclared}
 use Rattle.odc_lookahead.specs.Sets.{continues_argument, nothing_continues}
 use Rattle.odc_lookahead.specs.TypeParts.{params_line, bare_line}
 use Rattle.odc_lookahead.proofs.params.ParamsCrossed.{crossed_past, crossed_broken, crossed_deep, broken_near, deep_near}

@@ -13,6 +13,8 @@ use Rattle.odc_lookahead.proofs.reading.Reaching.{along, moved, IsPart, behind_p
 use Rattle.odc_lookahead.proofs.reading.Leading.{Rises, same_depth, Pending, Led, led_token, part_broken, part_deep, token_missing, token_deep}
 use Rattle.odc_lookahead.proofs.reading.Opening.{Opens, reach_opens}
 use Rattle.odc_lookahead.proofs.reading.Chaining.{Spine, Chained, Chain, Unfolds, chain_broken, chain_tail_deep}
+use Rattle.odc_lookahead.specs.declared.tokens.Fit.{Fit}
+use Rattle.odc_lookahead.specs.declared.tokens.Fit.TheVariants as fit
 
 pub moved_end : {a b : List Sym} {ts' : List Token} {s : List Sym} {ts : List Token} → a ≡ b → Reach a ts' s ts → Reach b ts' s ts
 moved_end {a} {b} {ts'} {s} {ts} e r = subst (λ (l : List Sym). Reach l ts' s ts) e r
@@ -138,8 +140,8 @@ part_refused y cont' g (stop.Deep left) rises l within h clears = part_deep g ri
 part_refused y cont' g stop.Memory rises l within h clears = tt
 
 -- a token of a production isn't read
-pub token_refused : {V U : Type 0} {p : Part V} {cont : TokenKind → Bool} {up : ℕ → ℕ} {b : ℕ} {ts : List Token} (k : TokenKind) (g : Part U) {f : Token × U → V} {n : ℕ} {rest : List Token} (e : Stop) (within : Bool) →
-    Rises up → Led p cont up b ts (then_ (token k) g) f n rest → (within ≡ false → b < n) → NotExpected k within rest e → Exact p cont (up b) ts (refused e)
+pub token_refused : {V U : Type 0} {p : Part V} {cont : TokenKind → Bool} {up : ℕ → ℕ} {b : ℕ} {ts : List Token} (k : TokenKind) (g : Part U) {f : Token × U → V} {n : ℕ} {rest : List Token} (e : Stop) (within : Fit) →
+    Rises up → Led p cont up b ts (then_ (token k) g) f n rest → (within ≡ fit.Over → b < n) → NotExpected k within rest e → Exact p cont (up b) ts (refused e)
 token_refused {p = p} {cont = cont} {up = up} {b = b} {ts = ts} k g (stop.Syntax left) within rises l over h =
     subst (λ (n : ℕ). Broken p cont (up b) ts n) (sym h.0) (token_missing k g l h.1)
 token_refused {p = p} {cont = cont} {up = up} {b = b} {ts = ts} k g {f = f} {n = n} (stop.Deep left) within rises l over h =

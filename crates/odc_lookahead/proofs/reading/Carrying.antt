@@ -9,6 +9,8 @@ use Rattle.odc_lookahead.specs.Exact.{Part, Exact, Found, Answer}
 use Rattle.odc_lookahead.specs.Ends.{FoundTo, ExactTo}
 use Rattle.odc_lookahead.specs.Read.{refused}
 use Rattle.odc_lookahead.specs.Sets.{nothing_continues}
+use Rattle.odc_lookahead.specs.declared.tokens.Fit.{Fit}
+use Rattle.odc_lookahead.specs.declared.tokens.Fit.TheVariants as fit
 
 -- the reason that is given is the one that was found
 pub because : {V : Type 0} (p : Part V) (cont : TokenKind → Bool) (b : ℕ) (ts : List Token) (e f : Stop) → f ≡ e → Exact p cont b ts (refused e) → Exact p cont b ts (refused f)
@@ -58,5 +60,5 @@ pub found_from : {V : Type 0} {p : Part V} {cont : TokenKind → Bool} {b : ℕ}
 found_from {V} {p} {cont} {b} {ts} {v} {n} {rest} t us is h = subst (λ (l : List Token). Found p cont b l v n rest) (sym is) h
 
 -- what a test says that was made before
-pub over_by : (w : Bool) (n d : ℕ) → (n ≤ d → w ≡ true) → w ≡ false → d < n
-over_by w n d k over = lt_of_not-le (λ h. let bad : true ≡ false = sym (k h) ∙ over in cc)
+pub over_by : (w : Fit) (n d : ℕ) → (n ≤ d → w ≡ fit.Within) → w ≡ fit.Over → d < n
+over_by w n d k over = lt_of_not-le (λ h. let bad : fit.Within ≡ fit.Over = sym (k h) ∙ over in cc)

@@ -4,7 +4,7 @@ use Rattle.odc_syntax.specs.declared.token.Token.{Token}
 use Rattle.odc_syntax.specs.declared.token.TokenKind.TheVariants as kind
 use Rattle.odc_syntax.specs.Derives.{StartsWithout}
 use Rattle.odc_lookahead.specs.declared.stop.Stop.TheVariants as stop
-use Rattle.odc_lookahead.specs.RunBounds.{Run, item, again, LastOver, over, continues_closed}
+use Rattle.odc_lookahead.specs.stmts.RunBounds.{Run, item, again, LastOver, over, continues_closed}
 
 run_more : {ts : List Token} (t c : Token) (us : List Token) → Run ts (t ∷ c ∷ us) → t.kind ≡ kind.Name → c.kind ≡ kind.Comma → Run ts us
 run_more t c us (item _) e f = again t c us us e f (item us)

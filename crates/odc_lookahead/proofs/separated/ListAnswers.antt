@@ -14,6 +14,8 @@ use Rattle.odc_lookahead.proofs.reading.Leading.{same_depth, Led, led_done}
 use Rattle.odc_lookahead.proofs.reading.Answering.{answer_is}
 use Rattle.odc_lookahead.proofs.separated.ListLemmas.{led_parts, parts_refused}
 use Rattle.odc_lookahead.proofs.separated.MoreLemmas.{More, left_clear, list_ended, list_again, list_refused}
+use Rattle.odc_lookahead.specs.declared.tokens.Fit.{Fit}
+use Rattle.odc_lookahead.specs.declared.tokens.Fit.TheVariants as fit
 
 -- A kind of list: its items and how they follow each other, its closing token, what may go on with an
 -- item, and what its items and the list of them are in the code.
@@ -99,8 +101,8 @@ list_goes_on {X} {V} {L} r p b ts xs ys x n after us led more within again =
     (λ i. λ u. ((sym (onto_last r xs x (r.cons u.0 u.1.0))) i, u.1.1))
     (list_again r.item r.more r.nil r.cons r.rules r.any r.close r.not_comma r.closes us again within led))
 
-pub list_stuck : {X V L : Type 0} (r : ListOf X V L) (p : Part (L × (Token × Unit {0}))) (b : ℕ) (ts : List Token) (xs : List X) (v : V) (n : ℕ) (after : List Token) (stop : Stop) (within : Bool) →
-    ItemAt r p b ts xs v n after → NotGoing r.close within after stop → (within ≡ false → b < n) → Exact p nothing_continues b ts (refused stop)
+pub list_stuck : {X V L : Type 0} (r : ListOf X V L) (p : Part (L × (Token × Unit {0}))) (b : ℕ) (ts : List Token) (xs : List X) (v : V) (n : ℕ) (after : List Token) (stop : Stop) (within : Fit) →
+    ItemAt r p b ts xs v n after → NotGoing r.close within after stop → (within ≡ fit.Over → b < n) → Exact p nothing_continues b ts (refused stop)
 list_stuck r p b ts xs v n after stop within led h over = list_refused r.item r.more r.nil r.cons r.rules r.any r.close r.not_comma r.closes stop within h over led
 
 -- the same at the depth that a function keeps

@@ -19,6 +19,8 @@ use Rattle.odc_lookahead.proofs.reading.Reaching.{along, moved, IsPart, behind_p
 use Rattle.odc_lookahead.proofs.reading.Leading.{Pending, Led, first_is, rest_is, without}
 use Rattle.odc_lookahead.proofs.reading.Samples as sample
 use Rattle.odc_lookahead.proofs.reading.Answering.{moved_end}
+use Rattle.odc_lookahead.specs.declared.tokens.Fit.{Fit}
+use Rattle.odc_lookahead.specs.declared.tokens.Fit.TheVariants as fit
 
 -- a part of several symbols is read, within a production of the same depth
 pub led_parts : {V U W : Type 0} {p : Part V} {cont cont' : TokenKind → Bool} {b : ℕ} {ts : List Token} {y : Part W} {g : Part U} {f : W × U → V} {n m : ℕ} {v : W} {rest rest' : List Token} →
@@ -233,6 +235,6 @@ module _ {V L : Type 0} (item : Part V) (list more : ℕ → L → Sym) (nil : L
   list_again = left.list_again item more nil cons further any close not_comma closes
 
   -- it does not go on
-  pub list_refused : {V' : Type 0} {p : Part V'} {cont : TokenKind → Bool} {b : ℕ} {ts : List Token} {f : L × (Token × Unit {0}) → V'} {n : ℕ} {rest : List Token} (e : Stop) (within : Bool) → NotGoing close within rest e → (within ≡ false → b < n) →
+  pub list_refused : {V' : Type 0} {p : Part V'} {cont : TokenKind → Bool} {b : ℕ} {ts : List Token} {f : L × (Token × Unit {0}) → V'} {n : ℕ} {rest : List Token} (e : Stop) (within : Fit) → NotGoing close within rest e → (within ≡ fit.Over → b < n) →
       Led p cont (λ n. n) b ts Left f n rest → Exact p cont b ts (refused e)
   list_refused = left.list_refused item more nil cons further any close not_comma closes

@@ -16,6 +16,8 @@ use Rattle.odc_lookahead.proofs.reading.Reaching.{moved, IsPart, behind_part, be
 use Rattle.odc_lookahead.proofs.reading.Samples as sample
 use Rattle.odc_lookahead.proofs.reading.Answering.{moved_end, Stepped, led_step, led_stuck, led_over}
 use Rattle.odc_lookahead.proofs.reading.Leading.{same_depth, Led, first_is, rest_is, without}
+use Rattle.odc_lookahead.specs.declared.tokens.Fit.{Fit}
+use Rattle.odc_lookahead.specs.declared.tokens.Fit.TheVariants as fit
 
 pub record Item {V L : Type 0} (item : Part V) (more : ℕ → L → Sym) (cons : V → L → L) (c : ℕ) (w : L) (head p : List Sym) : Type 0 where
   pub first : V
@@ -196,7 +198,7 @@ module _ {V L : Type 0} (item : Part V) (more : ℕ → L → Sym) (nil : L) (co
       more_again a.parted.comma us a.parted.kind a.open_ within (subst (λ (r : List Token). Led p cont (λ n. n) b ts Left f n r) a.parted.is l)
 
   -- it does not go on
-  pub list_refused : {V' : Type 0} {p : Part V'} {cont : TokenKind → Bool} {b : ℕ} {ts : List Token} {f : L × (Token × Unit {0}) → V'} {n : ℕ} {rest : List Token} (e : Stop) (within : Bool) → NotGoing close within rest e → (within ≡ false → b < n) →
+  pub list_refused : {V' : Type 0} {p : Part V'} {cont : TokenKind → Bool} {b : ℕ} {ts : List Token} {f : L × (Token × Unit {0}) → V'} {n : ℕ} {rest : List Token} (e : Stop) (within : Fit) → NotGoing close within rest e → (within ≡ fit.Over → b < n) →
       Led p cont (λ n. n) b ts Left f n rest → Exact p cont b ts (refused e)
   list_refused {p = p} {cont = cont} {b = b} {ts = ts} (stop.Syntax left) within h over l = subst (λ (k : ℕ). Broken p cont b ts k) (sym h.left_is) (more_broken h.comma h.closing l)
   list_refused {p = p} {cont = cont} {b = b} {ts = ts} (stop.Deep left) within h over l = subst (λ (k : ℕ). TooDeep p cont b ts k) (sym h.0.left_is) (more_deep h.0.first h.0.rest h.0.is h.0.kind (over h.1) l)

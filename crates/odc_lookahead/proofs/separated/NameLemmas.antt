@@ -9,11 +9,12 @@ use Rattle.odc_lookahead.specs.declared.stop.Stop.{Stop}
 use Rattle.odc_lookahead.specs.declared.stop.Stop.TheVariants as stop
 use Rattle.odc_lookahead.specs.Exact.{size, Clear, one, ComesWith, ComesAt, Comes, done, Exact, Found, Broken}
 use Rattle.odc_lookahead.specs.Read.{refused, NotExpected}
-use Rattle.odc_lookahead.specs.DeclarationParts.{name_list, continues_names}
+use Rattle.odc_lookahead.specs.stmts.DeclarationParts.{name_list, continues_names}
 use Rattle.odc_lookahead.proofs.reading.Reaching.{behind_part, behind_token}
 use Rattle.odc_lookahead.proofs.reading.Leading.{same_depth, Pending, Led, led_done, first_is, without, at_rest}
 use Rattle.odc_lookahead.proofs.reading.Answering.{led_step, led_stuck, Stepped, answer_is}
 use Rattle.odc_lookahead.proofs.reading.Samples as sample
+use Rattle.odc_lookahead.specs.declared.tokens.Fit.TheVariants as fit
 
 -- names of which there is a first
 abbrev pub some_names : ℕ → Token × List Token → Sym
@@ -84,7 +85,7 @@ stuck_by : {s' : List Sym} {ts' : List Token} (ts : List Token) → StartsWithou
 stuck_by ts open' u p names_one s r h = let z = behind_token r h in without kind.Name _ _ ts z.is z.kind open'
 stuck_by ts open' u p names_more s r h = let z = behind_token r h in without kind.Name _ _ ts z.is z.kind open'
 
-pub names_refused : (b : ℕ) (ts xs rest : List Token) (e : Stop) → NamesAt b ts xs rest → NotExpected kind.Name true rest e → Exact (one name_list) continues_names b ts (refused e)
+pub names_refused : (b : ℕ) (ts xs rest : List Token) (e : Stop) → NamesAt b ts xs rest → NotExpected kind.Name fit.Within rest e → Exact (one name_list) continues_names b ts (refused e)
 names_refused b ts xs rest (stop.Syntax left) led h =
     subst (λ (n : ℕ). Broken (one name_list) continues_names b ts n) (sym h.0) (led_stuck (λ c u s s' ts' clear r k. let z = behind_part tt r k in stuck_by rest h.1 u z.as_symbols z.rule s z.reach k) led)
 names_refused b ts xs rest (stop.Deep left) led h = let bad = h.over in cc

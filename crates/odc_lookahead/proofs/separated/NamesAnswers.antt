@@ -18,6 +18,7 @@ use Rattle.odc_lookahead.proofs.reading.Leading.{same_depth, Led, led_done, firs
 use Rattle.odc_lookahead.proofs.reading.Answering.{Stepped, led_step, led_stuck}
 use Rattle.odc_lookahead.proofs.reading.LineLemmas.{led_blocked}
 use Rattle.odc_lookahead.proofs.reading.Samples as sample
+use Rattle.odc_lookahead.specs.declared.tokens.Fit.TheVariants as fit
 
 -- what is left of the names: a first one, and those behind it
 abbrev pub Names : Type 0
@@ -151,9 +152,9 @@ neither_broken b ts xs n us led e f o =
     led_blocked us ((n, []), (sample.token, tt)) same_depth (omega arith) (omega arith) (λ c s. (_, write _ g.names_one (read e here)))
     (λ c u s s' ts' clear r h. let z = behind_part tt r (omega (arith, h)) in neither z.rule n us f o u.1.0 s s' ts' z.reach h) led
 
-pub names_refused : (b : ℕ) (ts xs rest : List Token) (n : Token) (us : List Token) (stop : Stop) → NamesAt b ts xs rest → rest ≡ n ∷ us → n.kind ≡ kind.Name → StartsWithout kind.Comma us → NotExpected kind.Colon true us stop →
+pub names_refused : (b : ℕ) (ts xs rest : List Token) (n : Token) (us : List Token) (stop : Stop) → NamesAt b ts xs rest → rest ≡ n ∷ us → n.kind ≡ kind.Name → StartsWithout kind.Comma us → NotExpected kind.Colon fit.Within us stop →
     Exact names_line nothing_continues b ts (refused stop)
 names_refused b ts xs rest n us (stop.Syntax left) led is e f h =
     subst (λ (k : ℕ). Broken names_line nothing_continues b ts k) (sym h.0) (neither_broken b ts xs n us (subst (λ (l : List Token). NamesAt b ts xs l) is led) e f h.1)
-names_refused b ts xs rest n us (stop.Deep left) led is e f h = let bad : true ≡ false = h.over in cc
+names_refused b ts xs rest n us (stop.Deep left) led is e f h = let bad : fit.Within ≡ fit.Over = h.over in cc
 names_refused b ts xs rest n us stop.Memory led is e f h = elim h [ ]

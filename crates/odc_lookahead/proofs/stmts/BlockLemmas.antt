@@ -13,10 +13,10 @@ use Rattle.odc_syntax.specs.Derives.{Reach, here, read, write, StartsWithout}
 use Rattle.odc_lookahead.specs.declared.stop.Stop.{Stop}
 use Rattle.odc_lookahead.specs.Exact.{size, one, then_, done, token, Exact, Answer, Yes, Found, Broken}
 use Rattle.odc_lookahead.specs.Read.{refused}
-use Rattle.odc_lookahead.specs.BodyParts.{braces_line}
+use Rattle.odc_lookahead.specs.stmts.BodyParts.{braces_line}
 use Rattle.odc_lookahead.specs.Sets.{nothing_continues}
-use Rattle.odc_lookahead.specs.Statements.{labelled_part}
-use Rattle.odc_lookahead.specs.StatementSets.{continues_statement}
+use Rattle.odc_lookahead.specs.stmts.Statements.{labelled_part}
+use Rattle.odc_lookahead.specs.stmts.StatementSets.{continues_statement}
 use Rattle.odc_lookahead.proofs.reading.Opening.{reach_opens, First, is_body, is_switch}
 use Rattle.odc_lookahead.proofs.reading.Reaching.{behind_token}
 use Rattle.odc_lookahead.proofs.reading.Leading.{same_depth, Pending, Led, first_is, at_rest}

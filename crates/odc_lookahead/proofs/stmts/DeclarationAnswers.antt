@@ -4,7 +4,7 @@ use Rattle.odc_text.specs.declared.place.Place.{Place}
 use Rattle.odc_syntax.specs.declared.token.Token.{Token}
 use Rattle.odc_syntax.specs.declared.grammar.Mode.{Mode}
 use Rattle.odc_syntax.specs.Tree.{Type_}
-use Rattle.odc_lookahead.specs.DeclarationParts.{Headed, Typed}
+use Rattle.odc_lookahead.specs.stmts.DeclarationParts.{Headed, Typed}
 use Rattle.odc_lookahead.proofs.stmts.DeclarationLemmas.{DeclaredAt, declared_at, TypedAt, typed_at}
 
 pub headed_at : (m : Mode) (b : ℕ) (ts : List Token) (at : Place) (ns us : List Token) → Headed b ts at ns us → DeclaredAt m b ts at ns us

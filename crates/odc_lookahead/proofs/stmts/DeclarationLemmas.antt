@@ -15,8 +15,8 @@ use Rattle.odc_lookahead.specs.declared.stop.Stop.{Stop}
 use Rattle.odc_lookahead.specs.Exact.{size, Clear, Part, one, ComesAt, then_, done, token, Exact, Found, Broken, TooDeep}
 use Rattle.odc_lookahead.specs.Read.{refused, NotExpected}
 use Rattle.odc_lookahead.specs.Sets.{starts_type, nothing_continues}
-use Rattle.odc_lookahead.specs.StatementSets.{continues_exprs, continues_declaration}
-use Rattle.odc_lookahead.specs.DeclarationParts.{name_list, continues_names, Declared, constant, inferred, typed, declared_line, declared_node, BehindType, valued, begun, behind_type_line, with_type}
+use Rattle.odc_lookahead.specs.stmts.StatementSets.{continues_exprs, continues_declaration}
+use Rattle.odc_lookahead.specs.stmts.DeclarationParts.{name_list, continues_names, Declared, constant, inferred, typed, declared_line, declared_node, BehindType, valued, begun, behind_type_line, with_type}
 use Rattle.odc_lookahead.proofs.reading.Opening.{reach_opens, StartsWith}
 use Rattle.odc_lookahead.proofs.reading.Reaching.{behind_part, behind_token}
 use Rattle.odc_lookahead.proofs.reading.Leading.{one_deeper, Pending, Led, led_part, led_done, first_is, without, at_rest}
@@ -26,6 +26,7 @@ use Rattle.odc_lookahead.proofs.expr.SuffixAnswers.{nothing_clear}
 use Rattle.odc_lookahead.proofs.separated.NameLemmas.{some_names, NameHead, name_head, some_names_found, some_names_refused}
 use Rattle.odc_lookahead.proofs.reading.Deciding.{led_here}
 use Rattle.odc_lookahead.proofs.reading.Samples as sample
+use Rattle.odc_lookahead.specs.declared.tokens.Fit.TheVariants as fit
 
 pub goes_on_declaration : (m : Mode) (k : TokenKind) → continues_exprs m k ≡ true → continues_declaration m k ≡ true
 goes_on_declaration m kind.Colon e = refl
@@ -117,10 +118,10 @@ names_read m b ts ns rest t z found =
     both_zero = omega arith
 
 -- no `:` follows
-pub declaration_no_colon : (m : Mode) (b : ℕ) (ts us ns rest : List Token) (t : Token) (e : Stop) → ts ≡ t ∷ us → Found (one name_list) continues_names b ts ns 0 rest → NotExpected kind.Colon true rest e →
+pub declaration_no_colon : (m : Mode) (b : ℕ) (ts us ns rest : List Token) (t : Token) (e : Stop) → ts ≡ t ∷ us → Found (one name_list) continues_names b ts ns 0 rest → NotExpected kind.Colon fit.Within rest e →
     Exact (one (g.declaration m)) (continues_declaration m) (suc b) ts (refused e)
 declaration_no_colon m b ts us ns rest t e is found h =
-    token_refused kind.Colon (declared_line m) e true one_deeper (names_read m b ts ns rest t (name_head b ts ns 0 rest t us is found) found) (λ bad. cc) h
+    token_refused kind.Colon (declared_line m) e fit.Within one_deeper (names_read m b ts ns rest t (name_head b ts ns 0 rest t us is found) found) (λ bad. cc) h
 
 -- names and `:` are read
 abbrev pub DeclaredAt : Mode → ℕ → List Token → Place → List Token → List Token → Type 0

@@ -13,8 +13,8 @@ use Rattle.odc_lookahead.specs.declared.stop.Stop.{Stop}
 use Rattle.odc_lookahead.specs.Exact.{size, Clear, one, then_, done, Exact, Found, TooDeep}
 use Rattle.odc_lookahead.specs.Read.{refused}
 use Rattle.odc_lookahead.specs.Sets.{starts_expression}
-use Rattle.odc_lookahead.specs.StatementSets.{continues_exprs, continues_declaration}
-use Rattle.odc_lookahead.specs.DeclarationParts.{declared_node, BehindType, valued, begun, behind_type_line, with_type}
+use Rattle.odc_lookahead.specs.stmts.StatementSets.{continues_exprs, continues_declaration}
+use Rattle.odc_lookahead.specs.stmts.DeclarationParts.{declared_node, BehindType, valued, begun, behind_type_line, with_type}
 use Rattle.odc_lookahead.proofs.reading.Opening.{reach_opens}
 use Rattle.odc_lookahead.proofs.reading.Reaching.{behind_part, behind_token}
 use Rattle.odc_lookahead.proofs.reading.Leading.{one_deeper, led_done, first_is, without, at_rest}

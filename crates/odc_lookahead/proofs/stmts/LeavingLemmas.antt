@@ -15,8 +15,8 @@ use Rattle.odc_lookahead.specs.declared.statement_form.StatementForm.TheVariants
 use Rattle.odc_lookahead.specs.Exact.{size, Clear, Part, one, then_, done, Exact, Found, Broken}
 use Rattle.odc_lookahead.specs.Read.{refused}
 use Rattle.odc_lookahead.specs.Sets.{starts_expression}
-use Rattle.odc_lookahead.specs.StatementSets.{continues_exprs, continues_statement}
-use Rattle.odc_lookahead.specs.StatementForms.{statement_form}
+use Rattle.odc_lookahead.specs.stmts.StatementSets.{continues_exprs, continues_statement}
+use Rattle.odc_lookahead.specs.stmts.StatementForms.{statement_form}
 use Rattle.odc_lookahead.proofs.reading.Opening.{reach_opens}
 use Rattle.odc_lookahead.proofs.reading.Reaching.{behind_part, behind_token}
 use Rattle.odc_lookahead.proofs.reading.Leading.{one_deeper, Pending, led_done, first_is, without, at_rest}

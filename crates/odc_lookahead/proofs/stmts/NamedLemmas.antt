@@ -18,11 +18,11 @@ use Rattle.odc_lookahead.specs.declared.stop.Stop.TheVariants as stop
 use Rattle.odc_lookahead.specs.declared.statement_form.StatementForm.TheVariants as form
 use Rattle.odc_lookahead.specs.Exact.{size, Clear, one, Exact, Answer, Yes, Found}
 use Rattle.odc_lookahead.specs.Read.{refused}
-use Rattle.odc_lookahead.specs.Runs.{Declares, named, listed, Undeclared, labelled_by, is_labelled, Labels, NotLabelled}
+use Rattle.odc_lookahead.specs.stmts.Runs.{Declares, named, listed, Undeclared, labelled_by, is_labelled, Labels, NotLabelled}
 use Rattle.odc_lookahead.specs.Sets.{starts_type}
-use Rattle.odc_lookahead.specs.Statements.{labelled_part}
-use Rattle.odc_lookahead.specs.StatementSets.{continues_simple, continues_declaration, continues_statement}
-use Rattle.odc_lookahead.specs.StatementForms.{statement_by, statement_form}
+use Rattle.odc_lookahead.specs.stmts.Statements.{labelled_part}
+use Rattle.odc_lookahead.specs.stmts.StatementSets.{continues_simple, continues_declaration, continues_statement}
+use Rattle.odc_lookahead.specs.stmts.StatementForms.{statement_by, statement_form}
 use Rattle.odc_lookahead.proofs.reading.Opening.{reach_opens}
 use Rattle.odc_lookahead.proofs.reading.Reaching.{behind_part, behind_token, behind_said}
 use Rattle.odc_lookahead.proofs.reading.Leading.{same_depth, one_deeper, Pending, first_is, at_rest}

@@ -3,10 +3,10 @@ use Rattle.std.proofs.Common.{◌≡◌, true, false, List, [], ◌∷◌, sym, 
 use Rattle.odc_syntax.specs.declared.token.Token.{Token}
 use Rattle.odc_syntax.specs.declared.token.TokenKind.TheVariants as kind
 use Rattle.odc_syntax.specs.Derives.{StartsWithout}
-use Rattle.odc_lookahead.specs.Headers.{Listed, Single}
-use Rattle.odc_lookahead.specs.Headers as headers
-use Rattle.odc_lookahead.specs.Runs.{Declares, Undeclared, Skips, is_labelled, Labels, NotLabelled}
-use Rattle.odc_lookahead.specs.Runs as runs
+use Rattle.odc_lookahead.specs.stmts.Headers.{Listed, Single}
+use Rattle.odc_lookahead.specs.stmts.Headers as headers
+use Rattle.odc_lookahead.specs.stmts.Runs.{Declares, Undeclared, Skips, is_labelled, Labels, NotLabelled}
+use Rattle.odc_lookahead.specs.stmts.Runs as runs
 
 both : (ts us vs : List Token) (t c : Token) → ts ≡ t ∷ us → us ≡ c ∷ vs → ts ≡ t ∷ c ∷ vs
 both ts us vs t c is then' = is ∙ ap (λ (l : List Token). t ∷ l) then'

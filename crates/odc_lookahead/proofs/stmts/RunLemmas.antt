@@ -13,9 +13,9 @@ use Rattle.odc_syntax.specs.Grammar as g
 use Rattle.odc_syntax.specs.Derives.{Reach, here, read, write}
 use Rattle.odc_lookahead.specs.Exact.{size, Clear, one, Exact, Answer}
 use Rattle.odc_lookahead.specs.Sets.{continues}
-use Rattle.odc_lookahead.specs.StatementSets.{continues_exprs, continues_simple, continues_declaration}
-use Rattle.odc_lookahead.specs.DeclarationParts.{inferred}
-use Rattle.odc_lookahead.specs.Runs.{Declares, named, listed, Undeclared, unnamed, ended, again}
+use Rattle.odc_lookahead.specs.stmts.StatementSets.{continues_exprs, continues_simple, continues_declaration}
+use Rattle.odc_lookahead.specs.stmts.DeclarationParts.{inferred}
+use Rattle.odc_lookahead.specs.stmts.Runs.{Declares, named, listed, Undeclared, unnamed, ended, again}
 use Rattle.odc_lookahead.proofs.reading.Opening.{reach_opens}
 use Rattle.odc_lookahead.proofs.reading.Reaching.{along, behind_part, behind_token}
 use Rattle.odc_lookahead.proofs.reading.Leading.{without, at_rest}

@@ -11,8 +11,8 @@ use Rattle.odc_syntax.specs.Grammar as g
 use Rattle.odc_lookahead.specs.declared.stop.Stop.{Stop}
 use Rattle.odc_lookahead.specs.Exact.{one, Exact, Found, TooDeep}
 use Rattle.odc_lookahead.specs.Read.{refused}
-use Rattle.odc_lookahead.specs.Statements.{BeginsWith}
-use Rattle.odc_lookahead.specs.StatementSets.{continues_exprs, continues_simple, NoAssignment}
+use Rattle.odc_lookahead.specs.stmts.Statements.{BeginsWith}
+use Rattle.odc_lookahead.specs.stmts.StatementSets.{continues_exprs, continues_simple, NoAssignment}
 use Rattle.odc_lookahead.proofs.reading.Answering.{answer_is}
 use Rattle.odc_lookahead.proofs.stmts.SimpleLemmas.{Assigns, eval_found, assign_deep, assign_refused, assign_found}
 

@@ -18,7 +18,7 @@ use Rattle.odc_lookahead.specs.declared.stop.Stop.TheVariants as stop
 use Rattle.odc_lookahead.specs.Exact.{size, Clear, Part, one, ComesWith, ComesAt, Comes, then_, done, token, Exact, Found, Broken, TooDeep}
 use Rattle.odc_lookahead.specs.Read.{refused}
 use Rattle.odc_lookahead.specs.Sets.{continues}
-use Rattle.odc_lookahead.specs.StatementSets.{is_assignment, continues_exprs, continues_simple, NoAssignment}
+use Rattle.odc_lookahead.specs.stmts.StatementSets.{is_assignment, continues_exprs, continues_simple, NoAssignment}
 use Rattle.odc_lookahead.proofs.reading.Opening.{reach_opens}
 use Rattle.odc_lookahead.proofs.reading.Reaching.{behind_part, behind_token}
 use Rattle.odc_lookahead.proofs.reading.Leading.{one_deeper, Pending, Led, led_part, led_done}

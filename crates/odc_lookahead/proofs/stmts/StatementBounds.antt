@@ -18,10 +18,10 @@ use Rattle.odc_syntax.specs.Derives.{Reach, here, read, read_said, write}
 use Rattle.odc_lookahead.specs.declared.statement_form.StatementForm.{StatementForm}
 use Rattle.odc_lookahead.specs.declared.statement_form.StatementForm.TheVariants as form
 use Rattle.odc_lookahead.specs.Exact.{size, one, ComesAt, Comes, TooDeep}
-use Rattle.odc_lookahead.specs.Runs.{labelled_by, is_labelled}
+use Rattle.odc_lookahead.specs.stmts.Runs.{labelled_by, is_labelled}
 use Rattle.odc_lookahead.specs.Sets.{continues}
-use Rattle.odc_lookahead.specs.StatementSets.{is_assignment, continues_exprs, continues_simple, continues_statement}
-use Rattle.odc_lookahead.specs.StatementForms.{statement_by, statement_form}
+use Rattle.odc_lookahead.specs.stmts.StatementSets.{is_assignment, continues_exprs, continues_simple, continues_statement}
+use Rattle.odc_lookahead.specs.stmts.StatementForms.{statement_by, statement_form}
 use Rattle.odc_lookahead.proofs.reading.Leading.{at_rest}
 use Rattle.odc_lookahead.proofs.reading.Opening.{reach_opens}
 use Rattle.odc_lookahead.proofs.reading.Reaching.{along, behind_part, behind_token}

@@ -20,9 +20,9 @@ use Rattle.odc_lookahead.specs.declared.stop.Stop.TheVariants as stop
 use Rattle.odc_lookahead.specs.declared.statement_form.StatementForm.TheVariants as form
 use Rattle.odc_lookahead.specs.Exact.{size, Clear, one, ComesAt, Comes, Exact, Found, TooDeep}
 use Rattle.odc_lookahead.specs.Read.{refused}
-use Rattle.odc_lookahead.specs.Runs.{named, ended, labelled_by, is_labelled, NotLabelled}
+use Rattle.odc_lookahead.specs.stmts.Runs.{named, ended, labelled_by, is_labelled, NotLabelled}
 use Rattle.odc_lookahead.specs.Sets.{continues, nothing_continues}
-use Rattle.odc_lookahead.specs.StatementSets.{is_assignment, continues_exprs, continues_simple, continues_statement, EndsSimple, NoAssignment}
+use Rattle.odc_lookahead.specs.stmts.StatementSets.{is_assignment, continues_exprs, continues_simple, continues_statement, EndsSimple, NoAssignment}
 use Rattle.odc_lookahead.proofs.reading.Reaching.{behind_part, behind_token}
 use Rattle.odc_lookahead.proofs.reading.Leading.{without, at_rest}
 use Rattle.odc_lookahead.proofs.reading.Answering.{answer_is}

@@ -22,12 +22,12 @@ use Rattle.odc_lookahead.specs.declared.stop.Stop.TheVariants as stop
 use Rattle.odc_lookahead.specs.Exact.{size, Clear, one, Broken, Syntax}
 use Rattle.odc_lookahead.specs.Forms.{form_by, directive_form}
 use Rattle.odc_lookahead.specs.Read.{unary_form}
-use Rattle.odc_lookahead.specs.Runs.{labelled_by, is_labelled}
+use Rattle.odc_lookahead.specs.stmts.Runs.{labelled_by, is_labelled}
 use Rattle.odc_lookahead.specs.Sets.{starts_expression, continues}
-use Rattle.odc_lookahead.specs.StatementForms.{statement_by, statement_form}
+use Rattle.odc_lookahead.specs.stmts.StatementForms.{statement_by, statement_form}
 use Rattle.odc_lookahead.proofs.reading.Opening.{reach_opens}
 use Rattle.odc_lookahead.proofs.reading.Reaching.{behind_part, behind_said}
-use Rattle.odc_lookahead.specs.StatementSets.{continues_exprs, continues_simple, continues_statement}
+use Rattle.odc_lookahead.specs.stmts.StatementSets.{continues_exprs, continues_simple, continues_statement}
 use Rattle.odc_lookahead.proofs.reading.Leading.{first_is}
 use Rattle.odc_lookahead.proofs.expr.BinaryLemmas.{clear_narrow}
 use Rattle.odc_lookahead.proofs.expr.ExprsLemmas.{first_clear}

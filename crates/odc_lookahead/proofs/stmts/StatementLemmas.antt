@@ -13,9 +13,9 @@ use Rattle.odc_lookahead.specs.declared.statement_form.StatementForm.{StatementF
 use Rattle.odc_lookahead.specs.declared.statement_form.StatementForm.TheVariants as form
 use Rattle.odc_lookahead.specs.Exact.{size, Clear, Part, one, done, Exact, Answer, Found}
 use Rattle.odc_lookahead.specs.Read.{refused}
-use Rattle.odc_lookahead.specs.StatementSets.{continues_simple, continues_statement}
-use Rattle.odc_lookahead.specs.Statements.{labelled_part}
-use Rattle.odc_lookahead.specs.StatementForms.{statement_form}
+use Rattle.odc_lookahead.specs.stmts.StatementSets.{continues_simple, continues_statement}
+use Rattle.odc_lookahead.specs.stmts.Statements.{labelled_part}
+use Rattle.odc_lookahead.specs.stmts.StatementForms.{statement_form}
 use Rattle.odc_lookahead.proofs.reading.Reaching.{behind_part, behind_token}
 use Rattle.odc_lookahead.proofs.reading.Leading.{one_deeper, Pending, Led, led_done, first_is, at_rest}
 use Rattle.odc_lookahead.proofs.reading.Answering.{led_at, led_start, led_same, led_rest, led_rest_refused, answer_is, wider_exact}

@@ -13,11 +13,11 @@ use Rattle.odc_lookahead.specs.declared.stop.Stop.{Stop}
 use Rattle.odc_lookahead.specs.declared.stop.Stop.TheVariants as stop
 use Rattle.odc_lookahead.specs.Exact.{size, Clear, Part, one, then_, done, token, Exact, Found, Broken, TooDeep}
 use Rattle.odc_lookahead.specs.Read.{refused, NotExpected}
-use Rattle.odc_lookahead.specs.BodyParts.{braces_line}
-use Rattle.odc_lookahead.specs.Runs.{Skips}
-use Rattle.odc_lookahead.specs.Runs as runs
+use Rattle.odc_lookahead.specs.stmts.BodyParts.{braces_line}
+use Rattle.odc_lookahead.specs.stmts.Runs.{Skips}
+use Rattle.odc_lookahead.specs.stmts.Runs as runs
 use Rattle.odc_lookahead.specs.Sets.{starts_statement, nothing_continues}
-use Rattle.odc_lookahead.specs.StatementSets.{continues_statement, continues_statements}
+use Rattle.odc_lookahead.specs.stmts.StatementSets.{continues_statement, continues_statements}
 use Rattle.odc_lookahead.proofs.reading.Opening.{reach_opens}
 use Rattle.odc_lookahead.proofs.reading.Reaching.{behind_part, behind_token}
 use Rattle.odc_lookahead.proofs.reading.Leading.{same_depth, Led, led_part, led_done, first_is, without, at_rest}
@@ -27,6 +27,8 @@ use Rattle.odc_lookahead.proofs.stmts.StatementLemmas.{some_stmt}
 use Rattle.odc_lookahead.proofs.reading.Deciding.{led_here}
 use Rattle.odc_lookahead.proofs.reading.Optional.{OpensBy, Turns, Into, optional_found, optional_refused}
 use Rattle.odc_lookahead.proofs.reading.Samples as sample
+use Rattle.odc_lookahead.specs.declared.tokens.Fit.{Fit}
+use Rattle.odc_lookahead.specs.declared.tokens.Fit.TheVariants as fit
 
 -- a part, from its start
 pub led_itself : {V : Type 0} (p : Part V) (cont : TokenKind → Bool) (b : ℕ) (ts : List Token) → V → Led p cont (λ n. n) b ts p (λ v. v) 0 ts
@@ -228,7 +230,7 @@ braces_refused b ts e h = part_refused g.stmts continues_statements (then_ (toke
 braces_read : (b : ℕ) (ts : List Token) (v : Stmts) (n : ℕ) (rest : List Token) → Found (one g.stmts) continues_statements b ts v n rest → Led braces_line nothing_continues (λ n. n) b ts (then_ (token kind.CloseBrace) done) (λ u. (v, u)) (max 0 n) rest
 braces_read b ts v n rest found = led_part same_depth (braces_led b ts) (omega arith) found (λ c u s clear. brace_clear c u s)
 
-pub braces_unclosed : (b : ℕ) (ts : List Token) (v : Stmts) (n : ℕ) (rest : List Token) (e : Stop) (within : Bool) → Found (one g.stmts) continues_statements b ts v n rest → (within ≡ false → b < n) → NotExpected kind.CloseBrace within rest e →
+pub braces_unclosed : (b : ℕ) (ts : List Token) (v : Stmts) (n : ℕ) (rest : List Token) (e : Stop) (within : Fit) → Found (one g.stmts) continues_statements b ts v n rest → (within ≡ fit.Over → b < n) → NotExpected kind.CloseBrace within rest e →
     Exact braces_line nothing_continues b ts (refused e)
 braces_unclosed b ts v n rest e within found over h = token_refused kind.CloseBrace done e within same_depth (braces_read b ts v n rest found) (λ i. let k = over i in omega (arith, k)) h
 

@@ -13,9 +13,9 @@ use Rattle.odc_syntax.specs.Derives.{Reach, here, read, write, StartsWithout}
 use Rattle.odc_lookahead.specs.declared.stop.Stop.{Stop}
 use Rattle.odc_lookahead.specs.Exact.{size, Clear, Part, one, then_, done, token, Exact, Found, TooDeep}
 use Rattle.odc_lookahead.specs.Read.{refused, NotExpected}
-use Rattle.odc_lookahead.specs.StatementSets.{continues_statements}
-use Rattle.odc_lookahead.specs.SwitchSets.{begins_items, continues_cases}
-use Rattle.odc_lookahead.specs.SwitchParts.{with_case}
+use Rattle.odc_lookahead.specs.stmts.StatementSets.{continues_statements}
+use Rattle.odc_lookahead.specs.stmts.SwitchSets.{begins_items, continues_cases}
+use Rattle.odc_lookahead.specs.stmts.SwitchParts.{with_case}
 use Rattle.odc_syntax.specs.View.{cases}
 use Rattle.odc_lookahead.proofs.reading.Opening.{reach_opens}
 use Rattle.odc_lookahead.proofs.reading.Reaching.{behind_part, behind_token}
@@ -25,6 +25,8 @@ use Rattle.odc_lookahead.proofs.expr.SuffixAnswers.{token_clear}
 use Rattle.odc_lookahead.proofs.stmts.StmtsLemmas.{led_itself}
 use Rattle.odc_lookahead.proofs.reading.Deciding.{led_here}
 use Rattle.odc_lookahead.proofs.reading.Samples as sample
+use Rattle.odc_lookahead.specs.declared.tokens.Fit.{Fit}
+use Rattle.odc_lookahead.specs.declared.tokens.Fit.TheVariants as fit
 
 -- cases that were read, in front of others
 abbrev pub cases_onto : List Case → Cases → Cases
@@ -108,7 +110,7 @@ pub case_items : (b : ℕ) (ts : List Token) (xs : List Case) (at : Place) (n : 
 case_items b ts xs at n rest ss m after led within found = led_part same_depth led within found colon_clear
 
 -- its `:`
-pub case_no_colon : (b : ℕ) (ts : List Token) (xs : List Case) (at : Place) (ss : Spans) (n : ℕ) (rest : List Token) (e : Stop) (within : Bool) → CaseItems b ts xs at ss n rest → (within ≡ false → b < n) → NotExpected kind.Colon within rest e → Exact (one g.cases) continues_cases b ts (refused e)
+pub case_no_colon : (b : ℕ) (ts : List Token) (xs : List Case) (at : Place) (ss : Spans) (n : ℕ) (rest : List Token) (e : Stop) (within : Fit) → CaseItems b ts xs at ss n rest → (within ≡ fit.Over → b < n) → NotExpected kind.Colon within rest e → Exact (one g.cases) continues_cases b ts (refused e)
 case_no_colon b ts xs at ss n rest e within led over h = token_refused kind.Colon body_line e within same_depth led over h
 
 abbrev pub CaseColon : ℕ → List Token → List Case → Place → Spans → ℕ → List Token → Type 0

@@ -15,7 +15,7 @@ use Rattle.odc_lookahead.specs.declared.stop.Stop.TheVariants as stop
 use Rattle.odc_lookahead.specs.Exact.{size, Clear, Part, one, then_, done, Exact, Found, Broken, TooDeep}
 use Rattle.odc_lookahead.specs.Read.{refused}
 use Rattle.odc_lookahead.specs.Sets.{starts_expression}
-use Rattle.odc_lookahead.specs.SwitchSets.{continues_span, continues_items, begins_items}
+use Rattle.odc_lookahead.specs.stmts.SwitchSets.{continues_span, continues_items, begins_items}
 use Rattle.odc_syntax.specs.View.{span_of, spans}
 use Rattle.odc_lookahead.proofs.reading.Opening.{reach_opens}
 use Rattle.odc_lookahead.proofs.reading.Reaching.{behind_part, behind_token}

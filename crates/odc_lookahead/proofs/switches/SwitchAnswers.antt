@@ -10,19 +10,21 @@ use Rattle.odc_syntax.specs.Grammar as g
 use Rattle.odc_syntax.specs.Tree.{Cases, Header}
 use Rattle.odc_lookahead.specs.declared.stop.Stop.{Stop}
 use Rattle.odc_lookahead.specs.Exact.{one, then_, done, token, Exact, Found}
-use Rattle.odc_lookahead.specs.Headers as header
+use Rattle.odc_lookahead.specs.stmts.Headers as header
 use Rattle.odc_lookahead.specs.Read.{refused, NotExpected}
-use Rattle.odc_lookahead.specs.Statements.{labelled_part}
-use Rattle.odc_lookahead.specs.StatementSets.{continues_statement, continues_simple, continues_head, continues_clause}
-use Rattle.odc_lookahead.specs.SwitchParts.{SwitchHead, switch_head, switched, WordRead}
-use Rattle.odc_lookahead.specs.SwitchSets.{before_cases, continues_cases}
+use Rattle.odc_lookahead.specs.stmts.Statements.{labelled_part}
+use Rattle.odc_lookahead.specs.stmts.StatementSets.{continues_statement, continues_simple, continues_head, continues_clause}
+use Rattle.odc_lookahead.specs.stmts.SwitchParts.{SwitchHead, switch_head, switched, WordRead}
+use Rattle.odc_lookahead.specs.stmts.SwitchSets.{before_cases, continues_cases}
 use Rattle.odc_lookahead.proofs.reading.Leading.{Led}
 use Rattle.odc_lookahead.proofs.reading.Carrying.{over_by}
 use Rattle.odc_lookahead.proofs.headers.HeadExpressions.{clause_kinds}
 use Rattle.odc_lookahead.proofs.switches.SwitchLemmas.{switch_headed, cases_unopened, cases_opened, cases_refused, cases_read, cases_unclosed, cases_closed}
+use Rattle.odc_lookahead.specs.declared.tokens.Fit.{Fit}
+use Rattle.odc_lookahead.specs.declared.tokens.Fit.TheVariants as fit
 
 module _ (b : ℕ) (ts : List Token) (at : Place) (w : SwitchWord) (us : List Token) (x : SwitchHead) (n : ℕ) (rest : List Token) (word : WordRead ts at w us) (head : Found switch_head before_cases b us x n rest) where
-  pub switch_unopened : (e : Stop) (within : Bool) → (n ≤ b → within ≡ true) → NotExpected kind.OpenBrace within rest e → Exact (one labelled_part) continues_statement b ts (refused e)
+  pub switch_unopened : (e : Stop) (within : Fit) → (n ≤ b → within ≡ fit.Within) → NotExpected kind.OpenBrace within rest e → Exact (one labelled_part) continues_statement b ts (refused e)
   switch_unopened e within k h = cases_unopened (λ r. (at, switched w x r.1.0)) n rest e within (switch_headed b ts at w us x n rest word head) (λ over. over_by within n b k over) h
 
   opened : (o : Token) (inner : List Token) → n ≤ b → rest ≡ o ∷ inner → o.kind ≡ kind.OpenBrace → Led (one labelled_part) continues_statement (λ n. n) b ts (then_ g.cases (then_ (token kind.CloseBrace) done)) (λ u. (at, switched w x u.0)) n inner
@@ -37,7 +39,7 @@ module _ (b : ℕ) (ts : List Token) (at : Place) (w : SwitchWord) (us : List To
       subst (λ (d : ℕ). Led (one labelled_part) continues_statement (λ n. n) b ts (then_ (token kind.CloseBrace) done) (λ u. (at, switched w x cs)) d after) (sym high)
       (cases_read (λ u. (at, switched w x u.0)) n inner cs m after (opened o inner within is k) within found)
 
-  pub switch_unclosed : (o : Token) (inner : List Token) (cs : Cases) (m top : ℕ) (after : List Token) (e : Stop) (within' : Bool) → n ≤ b → rest ≡ o ∷ inner → o.kind ≡ kind.OpenBrace → Found (one g.cases) continues_cases b inner cs m after → top ≡ max n m → (top ≤ b → within' ≡ true) →
+  pub switch_unclosed : (o : Token) (inner : List Token) (cs : Cases) (m top : ℕ) (after : List Token) (e : Stop) (within' : Fit) → n ≤ b → rest ≡ o ∷ inner → o.kind ≡ kind.OpenBrace → Found (one g.cases) continues_cases b inner cs m after → top ≡ max n m → (top ≤ b → within' ≡ fit.Within) →
       NotExpected kind.CloseBrace within' after e → Exact (one labelled_part) continues_statement b ts (refused e)
   switch_unclosed o inner cs m top after e within' within is k found high t h = cases_unclosed (λ u. (at, switched w x cs)) top after e within' (read_cases o inner cs m top after within is k found high) (λ over. over_by within' top b t over) h
 

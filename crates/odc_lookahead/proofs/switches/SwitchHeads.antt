@@ -14,13 +14,13 @@ use Rattle.odc_lookahead.specs.declared.stop.Stop.{Stop}
 use Rattle.odc_lookahead.specs.declared.stop.Stop.TheVariants as stop
 use Rattle.odc_lookahead.specs.Exact.{size, Clear, one, then_, done, Exact, Found, Broken}
 use Rattle.odc_lookahead.specs.Read.{refused}
-use Rattle.odc_lookahead.specs.Clauses.{Clause, declared, assigned, alone, clause_then}
-use Rattle.odc_lookahead.specs.Headers as header
-use Rattle.odc_lookahead.specs.Runs.{ended}
+use Rattle.odc_lookahead.specs.stmts.Clauses.{Clause, declared, assigned, alone, clause_then}
+use Rattle.odc_lookahead.specs.stmts.Headers as header
+use Rattle.odc_lookahead.specs.stmts.Runs.{ended}
 use Rattle.odc_lookahead.specs.Sets.{starts_expression, continues}
-use Rattle.odc_lookahead.specs.StatementSets.{continues_simple, continues_head, continues_clause}
-use Rattle.odc_lookahead.specs.SwitchParts.{SwitchHead, by_value, by_type, switch_head, value_read, value_line, clause_head, NotTyped}
-use Rattle.odc_lookahead.specs.SwitchSets.{before_cases}
+use Rattle.odc_lookahead.specs.stmts.StatementSets.{continues_simple, continues_head, continues_clause}
+use Rattle.odc_lookahead.specs.stmts.SwitchParts.{SwitchHead, by_value, by_type, switch_head, value_read, value_line, clause_head, NotTyped}
+use Rattle.odc_lookahead.specs.stmts.SwitchSets.{before_cases}
 use Rattle.odc_lookahead.proofs.reading.Opening.{reach_opens, First, StartsWith}
 use Rattle.odc_lookahead.proofs.reading.Reaching.{behind_part, behind_token}
 use Rattle.odc_lookahead.proofs.reading.Leading.{same_depth, Pending, Led, led_part, led_done, first_is, without, at_rest}

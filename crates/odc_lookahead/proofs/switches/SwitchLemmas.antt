@@ -16,11 +16,11 @@ use Rattle.odc_syntax.specs.Derives.{Reach, here, read, read_said, write, Starts
 use Rattle.odc_lookahead.specs.declared.stop.Stop.{Stop}
 use Rattle.odc_lookahead.specs.Exact.{size, Clear, Part, one, then_, done, token, behind, Exact, Found, Broken}
 use Rattle.odc_lookahead.specs.Read.{refused, NotExpected}
-use Rattle.odc_lookahead.specs.Runs.{labelled_by}
-use Rattle.odc_lookahead.specs.Statements.{labelled_part}
-use Rattle.odc_lookahead.specs.StatementSets.{continues_statement}
-use Rattle.odc_lookahead.specs.SwitchParts.{CasesIn, cases_line, SwitchHead, by_value, by_type, switch_head, switched, plain_word, partial_word, WordRead, plain, partial, NotPartial}
-use Rattle.odc_lookahead.specs.SwitchSets.{continues_cases, before_cases}
+use Rattle.odc_lookahead.specs.stmts.Runs.{labelled_by}
+use Rattle.odc_lookahead.specs.stmts.Statements.{labelled_part}
+use Rattle.odc_lookahead.specs.stmts.StatementSets.{continues_statement}
+use Rattle.odc_lookahead.specs.stmts.SwitchParts.{CasesIn, cases_line, SwitchHead, by_value, by_type, switch_head, switched, plain_word, partial_word, WordRead, plain, partial, NotPartial}
+use Rattle.odc_lookahead.specs.stmts.SwitchSets.{continues_cases, before_cases}
 use Rattle.odc_lookahead.proofs.reading.Opening.{reach_opens}
 use Rattle.odc_lookahead.proofs.reading.Reaching.{behind_part, behind_token, behind_said}
 use Rattle.odc_lookahead.proofs.reading.Leading.{same_depth, Pending, Led, led_part, led_done, first_is, at_rest}
@@ -29,6 +29,8 @@ use Rattle.odc_lookahead.proofs.reading.Behind.{led_behind, behind_refused}
 use Rattle.odc_lookahead.proofs.stmts.StatementForms.{labelled_first}
 use Rattle.odc_lookahead.proofs.expr.SuffixAnswers.{token_clear}
 use Rattle.odc_lookahead.proofs.reading.Samples as sample
+use Rattle.odc_lookahead.specs.declared.tokens.Fit.{Fit}
+use Rattle.odc_lookahead.specs.declared.tokens.Fit.TheVariants as fit
 
 -- behind the word
 abbrev pub switch_line : Part (SwitchHead × CasesIn)
@@ -137,9 +139,9 @@ partial_at b p us e f =
     led_at b us partial_line (partial_node p.at) (sample.token, some_switch) (omega arith) same_depth (λ c v. tt) (λ c w s. partial_into p us e f c w s)
     (λ c w q rule s s' ts' r h clear. partial_by p us e c w.0 w.1 q rule s r h)
 
-pub partial_refused : (b : ℕ) (ts : List Token) (p : Token) (us : List Token) (e : Stop) → ts ≡ p ∷ us → p.kind ≡ kind.Directive → p.word ≡ word.Partial → NotExpected kind.Switch true us e → Exact (one labelled_part) continues_statement b ts (refused e)
+pub partial_refused : (b : ℕ) (ts : List Token) (p : Token) (us : List Token) (e : Stop) → ts ≡ p ∷ us → p.kind ≡ kind.Directive → p.word ≡ word.Partial → NotExpected kind.Switch fit.Within us e → Exact (one labelled_part) continues_statement b ts (refused e)
 partial_refused b ts p us e is k f h =
-    subst (λ (l : List Token). Exact (one labelled_part) continues_statement b l (refused e)) (sym is) (token_refused kind.Switch switch_line e true same_depth (partial_at b p us k f) (λ i. cc) h)
+    subst (λ (l : List Token). Exact (one labelled_part) continues_statement b l (refused e)) (sym is) (token_refused kind.Switch switch_line e fit.Within same_depth (partial_at b p us k f) (λ i. cc) h)
 
 -- the word is read
 pub switch_at : (b : ℕ) (ts : List Token) (at : Place) (w : SwitchWord) (us : List Token) → WordRead ts at w us → SwitchAt b ts at w us
@@ -189,7 +191,7 @@ close_clear : (c : ℕ) (u : Token × Unit {0}) (s : List Sym) → Clear continu
 close_clear c u s = token_clear continues_cases kind.CloseBrace refl done c u s
 
 module _ {V : Type 0} {p : Part V} {cont : TokenKind → Bool} {b : ℕ} {ts : List Token} where
-  pub cases_unopened : (f : CasesIn → V) (n : ℕ) (rest : List Token) (e : Stop) (within : Bool) → Led p cont (λ n. n) b ts cases_line f n rest → (within ≡ false → b < n) → NotExpected kind.OpenBrace within rest e → Exact p cont b ts (refused e)
+  pub cases_unopened : (f : CasesIn → V) (n : ℕ) (rest : List Token) (e : Stop) (within : Fit) → Led p cont (λ n. n) b ts cases_line f n rest → (within ≡ fit.Over → b < n) → NotExpected kind.OpenBrace within rest e → Exact p cont b ts (refused e)
   cases_unopened f n rest e within led over h = token_refused kind.OpenBrace (then_ g.cases (then_ (token kind.CloseBrace) done)) e within same_depth led over h
 
   pub cases_opened : (f : CasesIn → V) (n : ℕ) (rest : List Token) (t : Token) (us : List Token) → Led p cont (λ n. n) b ts cases_line f n rest → n ≤ b → rest ≡ t ∷ us → t.kind ≡ kind.OpenBrace → Led p cont (λ n. n) b ts (then_ g.cases (then_ (token kind.CloseBrace) done)) (λ u. f (t, u)) n us
@@ -202,7 +204,7 @@ module _ {V : Type 0} {p : Part V} {cont : TokenKind → Bool} {b : ℕ} {ts : L
       Led p cont (λ n. n) b ts (then_ (token kind.CloseBrace) done) (λ u. f (v, u)) (max n m) after
   cases_read f n rest v m after led within found = led_part same_depth led within found (λ c u s clear. close_clear c u s)
 
-  pub cases_unclosed : (f : Token × Unit {0} → V) (n : ℕ) (rest : List Token) (e : Stop) (within : Bool) → Led p cont (λ n. n) b ts (then_ (token kind.CloseBrace) done) f n rest → (within ≡ false → b < n) → NotExpected kind.CloseBrace within rest e → Exact p cont b ts (refused e)
+  pub cases_unclosed : (f : Token × Unit {0} → V) (n : ℕ) (rest : List Token) (e : Stop) (within : Fit) → Led p cont (λ n. n) b ts (then_ (token kind.CloseBrace) done) f n rest → (within ≡ fit.Over → b < n) → NotExpected kind.CloseBrace within rest e → Exact p cont b ts (refused e)
   cases_unclosed f n rest e within led over h = token_refused kind.CloseBrace done e within same_depth led over h
 
   pub cases_closed : (f : Token × Unit {0} → V) (n : ℕ) (rest : List Token) (t : Token) (us : List Token) → Led p cont (λ n. n) b ts (then_ (token kind.CloseBrace) done) f n rest → n ≤ b → rest ≡ t ∷ us → t.kind ≡ kind.CloseBrace → Found p cont b ts (f (t, tt)) n us

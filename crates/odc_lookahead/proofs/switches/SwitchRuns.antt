@@ -4,11 +4,11 @@ use Rattle.odc_syntax.specs.declared.token.Token.{Token}
 use Rattle.odc_lookahead.specs.declared.stop.Stop.{Stop}
 use Rattle.odc_lookahead.specs.declared.stop.Stop.TheVariants as stop
 use Rattle.odc_lookahead.specs.Exact.{Exact}
-use Rattle.odc_lookahead.specs.Headers as header
+use Rattle.odc_lookahead.specs.stmts.Headers as header
 use Rattle.odc_lookahead.specs.Read.{refused}
-use Rattle.odc_lookahead.specs.RunBounds.{RunOver}
-use Rattle.odc_lookahead.specs.SwitchParts.{switch_head, value_read, value_line, NotTyped}
-use Rattle.odc_lookahead.specs.SwitchSets.{before_cases}
+use Rattle.odc_lookahead.specs.stmts.RunBounds.{RunOver}
+use Rattle.odc_lookahead.specs.stmts.SwitchParts.{switch_head, value_read, value_line, NotTyped}
+use Rattle.odc_lookahead.specs.stmts.SwitchSets.{before_cases}
 use Rattle.odc_lookahead.proofs.reading.Leading.{same_depth}
 use Rattle.odc_lookahead.proofs.headers.HeadLemmas.{listed_run}
 use Rattle.odc_lookahead.proofs.headers.HeaderFacts.{listed_at}

@@ -15,12 +15,12 @@ use Rattle.odc_lookahead.specs.declared.stop.Stop.{Stop}
 use Rattle.odc_lookahead.specs.declared.stop.Stop.TheVariants as stop
 use Rattle.odc_lookahead.specs.Exact.{size, Clear, Part, one, Comes, then_, done, token, Exact, Yes, Found, Broken, TooDeep}
 use Rattle.odc_lookahead.specs.Read.{refused, NotExpected}
-use Rattle.odc_lookahead.specs.Headers as header
-use Rattle.odc_lookahead.specs.Runs.{Declares, named, listed}
+use Rattle.odc_lookahead.specs.stmts.Headers as header
+use Rattle.odc_lookahead.specs.stmts.Runs.{Declares, named, listed}
 use Rattle.odc_lookahead.specs.Sets.{starts_expression, continues}
-use Rattle.odc_lookahead.specs.StatementSets.{continues_simple, continues_declaration, continues_head, continues_clause, EndsClause}
-use Rattle.odc_lookahead.specs.SwitchParts.{SwitchHead, by_value, by_type, switch_head, value_read, value_line, NotTyped}
-use Rattle.odc_lookahead.specs.SwitchSets.{before_cases, EndsHead}
+use Rattle.odc_lookahead.specs.stmts.StatementSets.{continues_simple, continues_declaration, continues_head, continues_clause, EndsClause}
+use Rattle.odc_lookahead.specs.stmts.SwitchParts.{SwitchHead, by_value, by_type, switch_head, value_read, value_line, NotTyped}
+use Rattle.odc_lookahead.specs.stmts.SwitchSets.{before_cases, EndsHead}
 use Rattle.odc_lookahead.proofs.reading.Opening.{reach_opens}
 use Rattle.odc_lookahead.proofs.reading.Reaching.{behind_part}
 use Rattle.odc_lookahead.proofs.reading.Leading.{same_depth, Led, led_done}
@@ -37,6 +37,8 @@ use Rattle.odc_lookahead.proofs.headers.ClauseExpressions.{clause_assigned_refus
 use Rattle.odc_lookahead.proofs.reading.Deciding.{led_here}
 use Rattle.odc_lookahead.proofs.switches.SwitchHeads.{value_clear, HeadLeads, HeadFar, first_leads, leads_named, head_stops}
 use Rattle.odc_lookahead.proofs.reading.Samples as sample
+use Rattle.odc_lookahead.specs.declared.tokens.Fit.{Fit}
+use Rattle.odc_lookahead.specs.declared.tokens.Fit.TheVariants as fit
 
 -- an expression is read
 expression_by : (b : ℕ) (ts place : List Token) (v : Expr) (n : ℕ) (rest : List Token) (most : ℕ) → header.Single ts place → NotTyped ts → header.HeadExpression b ts place v n rest → most ≤ 2 * length rest → suc most ≤ 2 * length ts → HeadFar b ts most
@@ -114,7 +116,7 @@ closed_led b ts h n rest untyped (header.begun d place v k before t us x m after
     let l = behind_far b ts place v k before t us untyped z is in
     clause_assigned value_read value_line same_depth head_stops l.1.1 d place v k before t us x n rest l.1.0 deeper (expression_at b ts place v k before z) within is on found
 
-pub head_unclosed : (b : ℕ) (ts : List Token) (h : Header) (n : ℕ) (rest : List Token) (e : Stop) (within : Bool) → NotTyped ts → header.ClosedFrom b ts h n rest → (within ≡ false → b < n) → NotExpected kind.Semicolon within rest e → Exact switch_head before_cases b ts (refused e)
+pub head_unclosed : (b : ℕ) (ts : List Token) (h : Header) (n : ℕ) (rest : List Token) (e : Stop) (within : Fit) → NotTyped ts → header.ClosedFrom b ts h n rest → (within ≡ fit.Over → b < n) → NotExpected kind.Semicolon within rest e → Exact switch_head before_cases b ts (refused e)
 head_unclosed b ts h n rest e within untyped z over k = token_refused kind.Semicolon value_line e within same_depth (closed_led b ts h n rest untyped z) over k
 
 -- behind the `;`

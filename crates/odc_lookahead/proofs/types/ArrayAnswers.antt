@@ -38,6 +38,8 @@ use Rattle.odc_lookahead.proofs.reading.LineLemmas.{led_whole, led_behind, behin
 use Rattle.odc_lookahead.proofs.reading.EndLemmas.{found_as, refused_as, as_refused, last_alone, last_as}
 use Rattle.odc_lookahead.proofs.types.TypeAnswers.{as_answer}
 use Rattle.odc_lookahead.proofs.reading.Samples as sample
+use Rattle.odc_lookahead.specs.declared.tokens.Fit.{Fit}
+use Rattle.odc_lookahead.specs.declared.tokens.Fit.TheVariants as fit
 
 -- `#soa[..]T`, where no `?` stands in the brackets
 soa_split : (u : Use) (t o : Token) (us : List Token) → built_form u t ≡ Some built.Soa → StartsWithout kind.Question us → (c : ℕ) (w : Type_) (p : List Sym) (rule : Rule (constructed u c w) p) → built_form u t ≡ Some (rule_built rule) →
@@ -196,10 +198,10 @@ bracket_answer u u' shape at b ts us v n after x m rest end w top same z open' f
     (last_as u x m rest end one_deeper (length_read u shape at b ts us v n after z open' found) (omega (arith, within)) at_last)
 
 -- `[?]T`
-pub counted_unclosed : (u : Use) (shape : Shape) (at : Place) (b : ℕ) (ts us : List Token) (stop : Stop) → Questioned shape at ts us → NotExpected kind.CloseBracket true us stop → ExactAs u (one (constructed u)) nothing_continues (suc b) ts (refused stop)
+pub counted_unclosed : (u : Use) (shape : Shape) (at : Place) (b : ℕ) (ts us : List Token) (stop : Stop) → Questioned shape at ts us → NotExpected kind.CloseBracket fit.Within us stop → ExactAs u (one (constructed u)) nothing_continues (suc b) ts (refused stop)
 counted_unclosed u shape at b ts us stop z h =
     refused_as (one (constructed u)) nothing_continues (suc b) ts u stop
-    (token_refused kind.CloseBracket (then_ (type_ (inside u)) (counted_end u)) stop true one_deeper (questioned_led u shape at b ts us z.question z.kind z.bracketed) (λ bad. cc) h)
+    (token_refused kind.CloseBracket (then_ (type_ (inside u)) (counted_end u)) stop fit.Within one_deeper (questioned_led u shape at b ts us z.question z.kind z.bracketed) (λ bad. cc) h)
 
 counted_closed : (u : Use) (shape : Shape) (at : Place) (b : ℕ) (ts us : List Token) (k : Token) (vs : List Token) → Questioned shape at ts us → us ≡ k ∷ vs → k.kind ≡ kind.CloseBracket →
     Led (one (constructed u)) nothing_continues (λ n. suc n) b ts (then_ (type_ (inside u)) (counted_end u)) (λ v. type at (shaped shape tree.counted v.0)) 0 vs
@@ -308,8 +310,8 @@ dynamic_at u b t ts us is e = subst (λ (l : List Token). Led (length_line u) no
 pub dynamic_answer : (u : Use) (b : ℕ) (t c : Token) (ts us rest : List Token) → ts ≡ t ∷ us → t.kind ≡ kind.Dynamic → us ≡ c ∷ rest → c.kind ≡ kind.CloseBracket → Found (length_line u) nothing_continues b ts (tree.dynamic, (c, tt)) 0 rest
 dynamic_answer u b t c ts us rest is e closes k = led_done same_depth (token_read same_depth (dynamic_at u b t ts us is e) (omega arith) closes k)
 
-pub dynamic_refused : (u : Use) (b : ℕ) (t : Token) (ts us : List Token) (stop : Stop) → ts ≡ t ∷ us → t.kind ≡ kind.Dynamic → NotExpected kind.CloseBracket true us stop → Exact (length_line u) nothing_continues b ts (refused stop)
-dynamic_refused u b t ts us stop is e h = token_refused kind.CloseBracket done stop true same_depth (dynamic_at u b t ts us is e) (λ bad. cc) h
+pub dynamic_refused : (u : Use) (b : ℕ) (t : Token) (ts us : List Token) (stop : Stop) → ts ≡ t ∷ us → t.kind ≡ kind.Dynamic → NotExpected kind.CloseBracket fit.Within us stop → Exact (length_line u) nothing_continues b ts (refused stop)
+dynamic_refused u b t ts us stop is e h = token_refused kind.CloseBracket done stop fit.Within same_depth (dynamic_at u b t ts us is e) (λ bad. cc) h
 
 -- `$N`, in the type of a parameter
 abbrev named_closing : Part (Token × (Token × Unit {0}))
@@ -334,16 +336,16 @@ dollar_at u b t ts us i is e =
     subst (λ (l : List Token). Led (length_line u) nothing_continues (λ n. n) b l named_closing (λ v. (tree.parametric v.0, v.1)) 0 us) (sym is)
     (subst (λ (u : Use). Led (length_line u) nothing_continues (λ n. n) b (t ∷ us) named_closing (λ v. (tree.parametric v.0, v.1)) 0 us) (sym i) (dollar_led b t us e))
 
-pub parametric_unnamed : (u : Use) (b : ℕ) (t : Token) (ts us : List Token) (stop : Stop) → u ≡ Parameter → ts ≡ t ∷ us → t.kind ≡ kind.Dollar → NotExpected kind.Name true us stop → Exact (length_line u) nothing_continues b ts (refused stop)
-parametric_unnamed u b t ts us stop i is e h = token_refused kind.Name closing stop true same_depth (dollar_at u b t ts us i is e) (λ bad. cc) h
+pub parametric_unnamed : (u : Use) (b : ℕ) (t : Token) (ts us : List Token) (stop : Stop) → u ≡ Parameter → ts ≡ t ∷ us → t.kind ≡ kind.Dollar → NotExpected kind.Name fit.Within us stop → Exact (length_line u) nothing_continues b ts (refused stop)
+parametric_unnamed u b t ts us stop i is e h = token_refused kind.Name closing stop fit.Within same_depth (dollar_at u b t ts us i is e) (λ bad. cc) h
 
 parametric_named : (u : Use) (b : ℕ) (t n : Token) (ts us vs : List Token) → u ≡ Parameter → ts ≡ t ∷ us → t.kind ≡ kind.Dollar → us ≡ n ∷ vs → n.kind ≡ kind.Name →
     Led (length_line u) nothing_continues (λ n. n) b ts closing (λ v. (tree.parametric n, v)) 0 vs
 parametric_named u b t n ts us vs i is e second k = token_read same_depth (dollar_at u b t ts us i is e) (omega arith) second k
 
-pub parametric_refused : (u : Use) (b : ℕ) (t n : Token) (ts us vs : List Token) (stop : Stop) → u ≡ Parameter → ts ≡ t ∷ us → t.kind ≡ kind.Dollar → us ≡ n ∷ vs → n.kind ≡ kind.Name → NotExpected kind.CloseBracket true vs stop →
+pub parametric_refused : (u : Use) (b : ℕ) (t n : Token) (ts us vs : List Token) (stop : Stop) → u ≡ Parameter → ts ≡ t ∷ us → t.kind ≡ kind.Dollar → us ≡ n ∷ vs → n.kind ≡ kind.Name → NotExpected kind.CloseBracket fit.Within vs stop →
     Exact (length_line u) nothing_continues b ts (refused stop)
-parametric_refused u b t n ts us vs stop i is e second k h = token_refused kind.CloseBracket done stop true same_depth (parametric_named u b t n ts us vs i is e second k) (λ bad. cc) h
+parametric_refused u b t n ts us vs stop i is e second k h = token_refused kind.CloseBracket done stop fit.Within same_depth (parametric_named u b t n ts us vs i is e second k) (λ bad. cc) h
 
 pub parametric_answer : (u : Use) (b : ℕ) (t n c : Token) (ts us vs rest : List Token) → u ≡ Parameter → ts ≡ t ∷ us → t.kind ≡ kind.Dollar → us ≡ n ∷ vs → n.kind ≡ kind.Name → vs ≡ c ∷ rest → c.kind ≡ kind.CloseBracket →
     Found (length_line u) nothing_continues b ts (tree.parametric n, (c, tt)) 0 rest
@@ -378,8 +380,8 @@ fixed_read : (u : Use) (b : ℕ) (ts : List Token) (x : Expr) (n : ℕ) (after :
     Found (one (g.expression Free)) (continues Or Free) b ts x n after → Led (length_line u) nothing_continues (λ n. n) b ts closing (λ v. (tree.fixed x, v)) (max 0 n) after
 fixed_read u b ts x n after f d o found = led_part same_depth (fixed_led u b ts f d o) (omega arith) found (λ c v s clear. bracket_clear c v s)
 
-pub fixed_unclosed : (u : Use) (b : ℕ) (ts : List Token) (x : Expr) (n : ℕ) (after : List Token) (stop : Stop) (within : Bool) → StartsWithout kind.CloseBracket ts → StartsWithout kind.Dynamic ts → (u ≡ Parameter → StartsWithout kind.Dollar ts) →
-    Found (one (g.expression Free)) (continues Or Free) b ts x n after → (within ≡ false → b < n) → NotExpected kind.CloseBracket within after stop → Exact (length_line u) nothing_continues b ts (refused stop)
+pub fixed_unclosed : (u : Use) (b : ℕ) (ts : List Token) (x : Expr) (n : ℕ) (after : List Token) (stop : Stop) (within : Fit) → StartsWithout kind.CloseBracket ts → StartsWithout kind.Dynamic ts → (u ≡ Parameter → StartsWithout kind.Dollar ts) →
+    Found (one (g.expression Free)) (continues Or Free) b ts x n after → (within ≡ fit.Over → b < n) → NotExpected kind.CloseBracket within after stop → Exact (length_line u) nothing_continues b ts (refused stop)
 fixed_unclosed u b ts x n after stop within f d o found over h = token_refused kind.CloseBracket done stop within same_depth (fixed_read u b ts x n after f d o found) (λ a. let k = over a in omega (arith, k)) h
 
 pub fixed_answer : (u : Use) (b : ℕ) (c : Token) (ts : List Token) (x : Expr) (n : ℕ) (after rest : List Token) → StartsWithout kind.CloseBracket ts → StartsWithout kind.Dynamic ts → (u ≡ Parameter → StartsWithout kind.Dollar ts) →
@@ -419,8 +421,8 @@ soa_broken u b t us k x none = record {
 }
 
 -- no `[` stands behind `#soa`
-pub soa_unopened : (u : Use) (b : ℕ) (t : Token) (us : List Token) (stop : Stop) → (t.kind ≡ kind.Directive) × (t.word ≡ word.Soa) → NotExpected kind.OpenBracket true us stop → ExactAs u (one (constructed u)) nothing_continues (suc b) (t ∷ us) (refused stop)
+pub soa_unopened : (u : Use) (b : ℕ) (t : Token) (us : List Token) (stop : Stop) → (t.kind ≡ kind.Directive) × (t.word ≡ word.Soa) → NotExpected kind.OpenBracket fit.Within us stop → ExactAs u (one (constructed u)) nothing_continues (suc b) (t ∷ us) (refused stop)
 soa_unopened u b t us (stop.Syntax left) e h =
     subst (λ (k : ℕ). Broken (one (constructed u)) nothing_continues (suc b) (t ∷ us) k) (sym h.0) (soa_broken u b t us e.0 e.1 h.1)
-soa_unopened u b t us (stop.Deep left) e h = let bad : true ≡ false = h.over in cc
+soa_unopened u b t us (stop.Deep left) e h = let bad : fit.Within ≡ fit.Over = h.over in cc
 soa_unopened u b t us stop.Memory e h = elim h [ ]

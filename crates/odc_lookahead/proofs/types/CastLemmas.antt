@@ -24,6 +24,8 @@ use Rattle.odc_lookahead.proofs.expr.SuffixAnswers.{nothing_clear}
 use Rattle.odc_lookahead.proofs.expr.UnaryLemmas.{cast_form, clears}
 use Rattle.odc_lookahead.proofs.expr.WholeLemmas.{costs_unary}
 use Rattle.odc_lookahead.proofs.reading.Samples as sample
+use Rattle.odc_lookahead.specs.declared.tokens.Fit.{Fit}
+use Rattle.odc_lookahead.specs.declared.tokens.Fit.TheVariants as fit
 
 abbrev operand_line : Mode → Part (Expr × Unit {0})
 operand_line m = then_ (g.unary (later m)) done
@@ -72,8 +74,8 @@ cast_deep m d t ts us zero' is e =
     }))
 
 -- `(`
-pub cast_unopened : (m : Mode) (b : ℕ) (t : Token) (us : List Token) (stop : Stop) → t.kind ≡ kind.Cast → NotExpected kind.OpenParen true us stop → Exact (one (g.unary m)) (starts_suffix m) (suc b) (t ∷ us) (refused stop)
-cast_unopened m b t us stop e h = token_refused kind.OpenParen (type_line m) stop true one_deeper (cast_led m b t us e) (λ bad. cc) h
+pub cast_unopened : (m : Mode) (b : ℕ) (t : Token) (us : List Token) (stop : Stop) → t.kind ≡ kind.Cast → NotExpected kind.OpenParen fit.Within us stop → Exact (one (g.unary m)) (starts_suffix m) (suc b) (t ∷ us) (refused stop)
+cast_unopened m b t us stop e h = token_refused kind.OpenParen (type_line m) stop fit.Within one_deeper (cast_led m b t us e) (λ bad. cc) h
 
 cast_opened : (m : Mode) (b : ℕ) (t o : Token) (us inner : List Token) → t.kind ≡ kind.Cast → us ≡ o ∷ inner → o.kind ≡ kind.OpenParen →
     Led (one (g.unary m)) (starts_suffix m) (λ n. suc n) b (t ∷ us) (type_line m) (λ u. cast_node t (o, u)) 0 inner
@@ -98,7 +100,7 @@ cast_typed : (m : Mode) (b : ℕ) (t : Token) (us : List Token) (ty : Type_) (n 
 cast_typed m b t us ty n after e z =
     led_part one_deeper (cast_opened m b t z.open_ us z.inner e z.is z.kind) (omega arith) z.found (λ c u s clear. nothing_clear (then_ (token kind.CloseParen) (operand_line m) c u ++ s))
 
-pub cast_unclosed : (m : Mode) (b : ℕ) (t : Token) (us : List Token) (ty : Type_) (n : ℕ) (after : List Token) (stop : Stop) (within : Bool) → t.kind ≡ kind.Cast → Converts b us ty n after → (within ≡ false → b < n) →
+pub cast_unclosed : (m : Mode) (b : ℕ) (t : Token) (us : List Token) (ty : Type_) (n : ℕ) (after : List Token) (stop : Stop) (within : Fit) → t.kind ≡ kind.Cast → Converts b us ty n after → (within ≡ fit.Over → b < n) →
     NotExpected kind.CloseParen within after stop → Exact (one (g.unary m)) (starts_suffix m) (suc b) (t ∷ us) (refused stop)
 cast_unclosed m b t us ty n after stop within e z over h =
     token_refused kind.CloseParen (operand_line m) stop within one_deeper (cast_typed m b t us ty n after e z) (λ a. let k = over a in omega (arith, k)) h

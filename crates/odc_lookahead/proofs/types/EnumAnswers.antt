@@ -25,6 +25,8 @@ use Rattle.odc_lookahead.proofs.reading.LineLemmas.{led_whole, led_behind, behin
 use Rattle.odc_lookahead.proofs.reading.EndLemmas.{found_as, refused_as}
 use Rattle.odc_lookahead.proofs.types.TypeLemmas.{enum_led}
 use Rattle.odc_lookahead.proofs.reading.Samples as sample
+use Rattle.odc_lookahead.specs.declared.tokens.Fit.{Fit}
+use Rattle.odc_lookahead.specs.declared.tokens.Fit.TheVariants as fit
 
 abbrev Base : Type 0
 Base = MaybeType × (Token × Unit {0})
@@ -77,7 +79,7 @@ base_read : (u : Use) (b : ℕ) (ts : List Token) (ty : Type_) (n : ℕ) (after 
     Led (base_line u) nothing_continues (λ n. n) b ts opening (λ v. (tree.some_type ty, v)) (max 0 n) after
 base_read u b ts ty n after none found = led_part same_depth (some_led u b ts none) (omega arith) found (λ c v s clear. nothing_clear (opening c v ++ s))
 
-pub base_unopened : (u : Use) (b : ℕ) (ts : List Token) (ty : Type_) (n : ℕ) (after : List Token) (stop : Stop) (within : Bool) → StartsWithout kind.OpenBrace ts → Found (one (type_ u)) nothing_continues b ts ty n after → (within ≡ false → b < n) →
+pub base_unopened : (u : Use) (b : ℕ) (ts : List Token) (ty : Type_) (n : ℕ) (after : List Token) (stop : Stop) (within : Fit) → StartsWithout kind.OpenBrace ts → Found (one (type_ u)) nothing_continues b ts ty n after → (within ≡ fit.Over → b < n) →
     NotExpected kind.OpenBrace within after stop → Exact (base_line u) nothing_continues b ts (refused stop)
 base_unopened u b ts ty n after stop within none found over h = token_refused kind.OpenBrace done stop within same_depth (base_read u b ts ty n after none found) (λ a. let k = over a in omega (arith, k)) h
 

@@ -24,6 +24,7 @@ use Rattle.odc_lookahead.proofs.expr.SuffixAnswers.{nothing_clear}
 use Rattle.odc_lookahead.proofs.reading.LineLemmas.{led_whole, led_behind, behind_refused}
 use Rattle.odc_lookahead.proofs.reading.EndLemmas.{last_alone}
 use Rattle.odc_lookahead.proofs.reading.Samples as sample
+use Rattle.odc_lookahead.specs.declared.tokens.Fit.TheVariants as fit
 
 -- a field
 abbrev type_line : Use → Part (Type_ × Unit {0})
@@ -104,8 +105,8 @@ enumerator_led : (b : ℕ) (ts : List Token) → Led enumerator_item continues_a
 unfolding then_ token
 enumerator_led b ts = led_whole enumerator_item continues_argument b ts (sample.token, tree.no_expr)
 
-pub enumerator_unnamed : (b : ℕ) (ts : List Token) (stop : Stop) → NotExpected kind.Name true ts stop → Exact enumerator_item continues_argument b ts (refused stop)
-enumerator_unnamed b ts stop h = token_refused kind.Name (one g.given) stop true same_depth (enumerator_led b ts) (λ bad. cc) h
+pub enumerator_unnamed : (b : ℕ) (ts : List Token) (stop : Stop) → NotExpected kind.Name fit.Within ts stop → Exact enumerator_item continues_argument b ts (refused stop)
+enumerator_unnamed b ts stop h = token_refused kind.Name (one g.given) stop fit.Within same_depth (enumerator_led b ts) (λ bad. cc) h
 
 enumerator_named : (b : ℕ) (n : Token) (ts us : List Token) → ts ≡ n ∷ us → n.kind ≡ kind.Name → Led enumerator_item continues_argument (λ n. n) b ts (one g.given) (λ v. (n, v)) 0 us
 enumerator_named b n ts us is e = token_read same_depth (enumerator_led b ts) (omega arith) is e

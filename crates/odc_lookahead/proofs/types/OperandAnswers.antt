@@ -35,6 +35,8 @@ use Rattle.odc_lookahead.proofs.expr.WholeLemmas.{costs_operand}
 use Rattle.odc_lookahead.proofs.reading.Carrying.{answer_to}
 use Rattle.odc_lookahead.proofs.reading.EndLemmas.{led_rest_to, as_refused}
 use Rattle.odc_lookahead.proofs.reading.Samples as sample
+use Rattle.odc_lookahead.specs.declared.tokens.Fit.{Fit}
+use Rattle.odc_lookahead.specs.declared.tokens.Fit.TheVariants as fit
 
 inside : {a b : tree.ExprKind} → Some a ≡ Some b → a ≡ b
 inside e = cc
@@ -187,8 +189,8 @@ dot_led m b t us e =
 pub dot_answer : (m : Mode) (b : ℕ) (t n : Token) (us rest : List Token) (f : OperandForm) → f ≡ form.Dot → operand_form m t ≡ f → us ≡ n ∷ rest → n.kind ≡ kind.Name → Found (one (operand m)) nothing_continues (suc b) (t ∷ us) (expr t.at t.at (tree.dot n)) 1 rest
 dot_answer m b t n us rest f i e is k = led_done one_deeper (token_read one_deeper (dot_led m b t us (e ∙ i)) (omega arith) is k)
 
-pub dot_refused : (m : Mode) (b : ℕ) (t : Token) (us : List Token) (f : OperandForm) (stop : Stop) → f ≡ form.Dot → operand_form m t ≡ f → NotExpected kind.Name true us stop → Exact (one (operand m)) nothing_continues (suc b) (t ∷ us) (refused stop)
-dot_refused m b t us f stop i e h = token_refused kind.Name done stop true one_deeper (dot_led m b t us (e ∙ i)) (λ bad. cc) h
+pub dot_refused : (m : Mode) (b : ℕ) (t : Token) (us : List Token) (f : OperandForm) (stop : Stop) → f ≡ form.Dot → operand_form m t ≡ f → NotExpected kind.Name fit.Within us stop → Exact (one (operand m)) nothing_continues (suc b) (t ∷ us) (refused stop)
+dot_refused m b t us f stop i e h = token_refused kind.Name done stop fit.Within one_deeper (dot_led m b t us (e ∙ i)) (λ bad. cc) h
 
 -- an expression in parentheses
 group_at : (m : Mode) (b : ℕ) (t : Token) (us : List Token) (f : OperandForm) → f ≡ form.Group → operand_form m t ≡ f → Led (one (operand m)) nothing_continues (λ n. suc n) b (t ∷ us) group_line (λ u. g.opened t.at u.0) 0 us
@@ -203,8 +205,8 @@ pub group_refused : (m : Mode) (b : ℕ) (t : Token) (us : List Token) (f : Oper
 group_refused m b t us f stop i e h =
     part_refused (g.expression Free) (continues Or Free) (then_ (token kind.CloseParen) done) stop one_deeper (group_at m b t us f i e) (omega arith) h (λ c u s clear. token_clear (continues Or Free) kind.CloseParen refl done c u s)
 
-pub group_unclosed : (m : Mode) (b : ℕ) (t : Token) (us : List Token) (f : OperandForm) (x : Expr) (n : ℕ) (after : List Token) (stop : Stop) (within : Bool) → f ≡ form.Group → operand_form m t ≡ f →
-    Found (one (g.expression Free)) (continues Or Free) b us x n after → (within ≡ false → b < n) → NotExpected kind.CloseParen within after stop → Exact (one (operand m)) nothing_continues (suc b) (t ∷ us) (refused stop)
+pub group_unclosed : (m : Mode) (b : ℕ) (t : Token) (us : List Token) (f : OperandForm) (x : Expr) (n : ℕ) (after : List Token) (stop : Stop) (within : Fit) → f ≡ form.Group → operand_form m t ≡ f →
+    Found (one (g.expression Free)) (continues Or Free) b us x n after → (within ≡ fit.Over → b < n) → NotExpected kind.CloseParen within after stop → Exact (one (operand m)) nothing_continues (suc b) (t ∷ us) (refused stop)
 group_unclosed m b t us f x n after stop within i e found over h =
     token_refused kind.CloseParen done stop within one_deeper (group_read m b t us f x n after i e found) (λ a. let k = over a in omega (arith, k)) h
 

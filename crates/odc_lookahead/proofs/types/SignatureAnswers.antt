@@ -27,6 +27,7 @@ use Rattle.odc_lookahead.proofs.reading.LineLemmas.{led_behind, behind_refused}
 use Rattle.odc_lookahead.proofs.reading.EndLemmas.{found_as, last_alone, last_as, same_as, refused_as, as_refused}
 use Rattle.odc_lookahead.proofs.types.TypeAnswers.{as_answer}
 use Rattle.odc_lookahead.proofs.reading.Samples as sample
+use Rattle.odc_lookahead.specs.declared.tokens.Fit.TheVariants as fit
 
 -- no results
 none_by : {u : Use} {c : ℕ} {w : Results} {p : List Sym} (rule : Rule (g.results u c w) p) (ts : List Token) → StartsWithout kind.Arrow ts → (s s' : List Sym) (ts' : List Token) → Reach s' ts' (p ++ s) ts → size s' ts' ≤ 2 * length ts →
@@ -195,10 +196,10 @@ convention_led u b t us (Some n) vs e z =
 convention_led u b t us None vs e z =
     subst (λ (l : List Token). Led (one (g.sig u)) nothing_continues (λ n. n) b (t ∷ us) (unopened_line u) (λ v. sig_node t (None, v)) 0 l) (sym z.is) (uncalled_led u b t us e z.none)
 
-pub signature_unopened : (u : Use) (b : ℕ) (t : Token) (us : List Token) (n : Option Token) (vs : List Token) (stop : Stop) → t.kind ≡ kind.Proc → Convention us n vs → NotExpected kind.OpenParen true vs stop →
+pub signature_unopened : (u : Use) (b : ℕ) (t : Token) (us : List Token) (n : Option Token) (vs : List Token) (stop : Stop) → t.kind ≡ kind.Proc → Convention us n vs → NotExpected kind.OpenParen fit.Within vs stop →
     ExactAs u (one (g.sig u)) nothing_continues b (t ∷ us) (refused stop)
 signature_unopened u b t us n vs stop e z h =
-    refused_as (one (g.sig u)) nothing_continues b (t ∷ us) u stop (token_refused kind.OpenParen (opened_line u) stop true same_depth (convention_led u b t us n vs e z) (λ bad. cc) h)
+    refused_as (one (g.sig u)) nothing_continues b (t ∷ us) u stop (token_refused kind.OpenParen (opened_line u) stop fit.Within same_depth (convention_led u b t us n vs e z) (λ bad. cc) h)
 
 -- `proc (` is read
 pub record Begun (t : Token) (us : List Token) (n : Option Token) (inner : List Token) : Type 0 where

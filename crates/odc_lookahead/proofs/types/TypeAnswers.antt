@@ -27,6 +27,8 @@ use Rattle.odc_lookahead.proofs.expr.SuffixAnswers.{nothing_clear}
 use Rattle.odc_lookahead.proofs.types.TypeLemmas.{pointer_led, distinct_led, dollar_line, dollar_led, word_proc_led, type_group_led, proc_type, proc_type_led, struct_led, union_led}
 use Rattle.odc_lookahead.proofs.reading.EndLemmas.{found_as, last_as, same_as, refused_as, as_refused}
 use Rattle.odc_lookahead.proofs.reading.Samples as sample
+use Rattle.odc_lookahead.specs.declared.tokens.Fit.{Fit}
+use Rattle.odc_lookahead.specs.declared.tokens.Fit.TheVariants as fit
 
 -- what a function answers, in the words of its result
 pub as_answer : {V : Type 0} (u : Use) (p : Part V) (cont : TokenKind → Bool) (b : ℕ) (ts : List Token) (v w : V) (n m : ℕ) (rest : List Token) (end : End) → v ≡ w → n ≡ m → FoundAs u p cont b ts v n rest end → FoundAs u p cont b ts w m rest end
@@ -86,8 +88,8 @@ pub dollar_answer : (u : Use) (b : ℕ) (t n : Token) (us rest : List Token) (w 
     FoundAs u (one (constructed u)) nothing_continues (suc b) (t ∷ us) w 1 rest Sure
 dollar_answer u b t n us rest w i e is k made = found_as u (answer_is (sym made) refl (led_done one_deeper (token_read one_deeper (dollar_at u i b t us e) (omega arith) is k)))
 
-pub dollar_refused : (u : Use) (b : ℕ) (t : Token) (us : List Token) (stop : Stop) → u ≡ Parameter → t.kind ≡ kind.Dollar → NotExpected kind.Name true us stop → ExactAs u (one (constructed u)) nothing_continues (suc b) (t ∷ us) (refused stop)
-dollar_refused u b t us stop i e h = refused_as (one (constructed u)) nothing_continues (suc b) (t ∷ us) u stop (token_refused kind.Name done stop true one_deeper (dollar_at u i b t us e) (λ bad. cc) h)
+pub dollar_refused : (u : Use) (b : ℕ) (t : Token) (us : List Token) (stop : Stop) → u ≡ Parameter → t.kind ≡ kind.Dollar → NotExpected kind.Name fit.Within us stop → ExactAs u (one (constructed u)) nothing_continues (suc b) (t ∷ us) (refused stop)
+dollar_refused u b t us stop i e h = refused_as (one (constructed u)) nothing_continues (suc b) (t ∷ us) u stop (token_refused kind.Name done stop fit.Within one_deeper (dollar_at u i b t us e) (λ bad. cc) h)
 
 -- a procedure's type
 same_answer : {V U : Type 0} {p : Part V} {q : Part U} {b : ℕ} {ts : List Token} {f : U → V} {rest : List Token} (u : Use) (v : U) (n : ℕ) (rest' : List Token) (end : End) (w : V) (top : ℕ) →
@@ -125,14 +127,14 @@ no_proc : (ts : List Token) → StartsWithout kind.Proc ts → StartsWith kind.P
 no_proc [] none on = on
 no_proc (t ∷ ts) none on = none on
 
-proc_missing : (u : Use) (b : ℕ) (us : List Token) (stop : Stop) → NotExpected kind.Proc true us stop → Exact (one (g.sig u)) nothing_continues b us (refused stop)
+proc_missing : (u : Use) (b : ℕ) (us : List Token) (stop : Stop) → NotExpected kind.Proc fit.Within us stop → Exact (one (g.sig u)) nothing_continues b us (refused stop)
 proc_missing u b us (stop.Syntax left) h =
     subst (λ (k : ℕ). Broken (one (g.sig u)) nothing_continues b us k) (sym h.0)
     (stuck_broken (g.sig u) (tree.signature sample.place None tree.no_params tree.no_results) (λ c v opens. no_proc us h.1 opens))
-proc_missing u b us (stop.Deep left) h = let bad : true ≡ false = h.over in cc
+proc_missing u b us (stop.Deep left) h = let bad : fit.Within ≡ fit.Over = h.over in cc
 proc_missing u b us stop.Memory h = elim h [ ]
 
-pub word_missing : (u : Use) (b : ℕ) (t : Token) (us : List Token) (stop : Stop) → (t.kind ≡ kind.Directive) × (t.word ≡ word.Type) → NotExpected kind.Proc true us stop → ExactAs u (one (constructed u)) nothing_continues (suc b) (t ∷ us) (refused stop)
+pub word_missing : (u : Use) (b : ℕ) (t : Token) (us : List Token) (stop : Stop) → (t.kind ≡ kind.Directive) × (t.word ≡ word.Type) → NotExpected kind.Proc fit.Within us stop → ExactAs u (one (constructed u)) nothing_continues (suc b) (t ∷ us) (refused stop)
 word_missing u b t us stop e h = inner_refused u stop (word_proc_led u b t us e.0 e.1) (proc_missing u b us stop h)
 
 -- a type in parentheses
@@ -145,8 +147,8 @@ group_type_read : (u : Use) (b : ℕ) (t : Token) (us : List Token) (v : Type_) 
     Led (one (type_ u)) nothing_continues (λ n. suc n) b (t ∷ us) (then_ (token kind.CloseParen) done) (λ x. v) (max 0 n) after
 group_type_read u b t us v n after e found = led_part one_deeper (type_group_led u b t us e) (omega arith) found (λ c v s clear. nothing_clear (then_ (token kind.CloseParen) done c v ++ s))
 
-pub group_type_unclosed : (u : Use) (b : ℕ) (t : Token) (us : List Token) (v : Type_) (n : ℕ) (after : List Token) (stop : Stop) (within : Bool) → t.kind ≡ kind.OpenParen → Found (one (type_ (inside u))) nothing_continues b us v n after →
-    (within ≡ false → b < n) → NotExpected kind.CloseParen within after stop → ExactAs u (one (type_ u)) nothing_continues (suc b) (t ∷ us) (refused stop)
+pub group_type_unclosed : (u : Use) (b : ℕ) (t : Token) (us : List Token) (v : Type_) (n : ℕ) (after : List Token) (stop : Stop) (within : Fit) → t.kind ≡ kind.OpenParen → Found (one (type_ (inside u))) nothing_continues b us v n after →
+    (within ≡ fit.Over → b < n) → NotExpected kind.CloseParen within after stop → ExactAs u (one (type_ u)) nothing_continues (suc b) (t ∷ us) (refused stop)
 group_type_unclosed u b t us v n after stop within e found over h =
     refused_as (one (type_ u)) nothing_continues (suc b) (t ∷ us) u stop (token_refused kind.CloseParen done stop within one_deeper (group_type_read u b t us v n after e found) (λ a. let k = over a in omega (arith, k)) h)
 
@@ -156,9 +158,9 @@ group_type_answer u b t c us v n top after rest e found within is closes high =
     found_as u (answer_is refl (omega (arith, high)) (led_done one_deeper (token_read one_deeper (group_type_read u b t us v n after e found) (omega (arith, within)) is closes)))
 
 -- `struct {..}`
-pub struct_unopened : (u : Use) (b : ℕ) (t : Token) (us : List Token) (stop : Stop) → t.kind ≡ kind.Struct → NotExpected kind.OpenBrace true us stop → ExactAs u (one (constructed u)) nothing_continues (suc b) (t ∷ us) (refused stop)
+pub struct_unopened : (u : Use) (b : ℕ) (t : Token) (us : List Token) (stop : Stop) → t.kind ≡ kind.Struct → NotExpected kind.OpenBrace fit.Within us stop → ExactAs u (one (constructed u)) nothing_continues (suc b) (t ∷ us) (refused stop)
 struct_unopened u b t us stop e h =
-    refused_as (one (constructed u)) nothing_continues (suc b) (t ∷ us) u stop (token_refused kind.OpenBrace (fields_line (inside u)) stop true one_deeper (struct_led u b t us e) (λ bad. cc) h)
+    refused_as (one (constructed u)) nothing_continues (suc b) (t ∷ us) u stop (token_refused kind.OpenBrace (fields_line (inside u)) stop fit.Within one_deeper (struct_led u b t us e) (λ bad. cc) h)
 
 struct_opened : (u : Use) (b : ℕ) (t o : Token) (us vs : List Token) → t.kind ≡ kind.Struct → us ≡ o ∷ vs → o.kind ≡ kind.OpenBrace →
     Led (one (constructed u)) nothing_continues (λ n. suc n) b (t ∷ us) (fields_line (inside u)) (λ v. type t.at (tree.struct v.0)) 0 vs
@@ -173,9 +175,9 @@ pub struct_answer : (u : Use) (b : ℕ) (t o : Token) (us vs : List Token) (v : 
 struct_answer u b t o us vs v n rest w top e is k found made high = inner_answer u v n rest w top (struct_opened u b t o us vs e is k) found made high
 
 -- `union {..}`
-pub union_unopened : (u : Use) (b : ℕ) (t : Token) (us : List Token) (stop : Stop) → t.kind ≡ kind.Union → NotExpected kind.OpenBrace true us stop → ExactAs u (one (constructed u)) nothing_continues (suc b) (t ∷ us) (refused stop)
+pub union_unopened : (u : Use) (b : ℕ) (t : Token) (us : List Token) (stop : Stop) → t.kind ≡ kind.Union → NotExpected kind.OpenBrace fit.Within us stop → ExactAs u (one (constructed u)) nothing_continues (suc b) (t ∷ us) (refused stop)
 union_unopened u b t us stop e h =
-    refused_as (one (constructed u)) nothing_continues (suc b) (t ∷ us) u stop (token_refused kind.OpenBrace (types_line (inside u)) stop true one_deeper (union_led u b t us e) (λ bad. cc) h)
+    refused_as (one (constructed u)) nothing_continues (suc b) (t ∷ us) u stop (token_refused kind.OpenBrace (types_line (inside u)) stop fit.Within one_deeper (union_led u b t us e) (λ bad. cc) h)
 
 union_opened : (u : Use) (b : ℕ) (t o : Token) (us vs : List Token) → t.kind ≡ kind.Union → us ≡ o ∷ vs → o.kind ≡ kind.OpenBrace →
     Led (one (constructed u)) nothing_continues (λ n. suc n) b (t ∷ us) (types_line (inside u)) (λ v. type t.at (tree.union v.0)) 0 vs

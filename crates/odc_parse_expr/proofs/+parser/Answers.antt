@@ -17,7 +17,7 @@ use Rattle.odc_lookahead.proofs.reading.Answering.{empty_broken, answer_is, boun
 use Rattle.odc_lookahead.proofs.reading.Carrying.{because, because_to, from_token, to_token, to_token_to, at_front, at_front_to, at_zero, found_at, found_from, over_by}
 use Rattle.odc_lookahead.proofs.reading.Nesting.{Never, once_chained}
 use Rattle.odc_lookahead.proofs.expr.BinaryLemmas.{many_clear, never_clear}
-use Rattle.odc_lookahead.proofs.expr.ChainLemmas.{Operators, Comparisons, operators_first, operators_refused, operators_chained, operator_more, operator_refused, operator_deep, operator_none, comparison_first, comparison_refused, comparison_done, item_at, chain_at, product_item}
+use Rattle.odc_lookahead.proofs.expr.ChainLemmas.{Operators, Comparisons, operators_first, operators_refused, operators_chained, operator_more, operator_refused, operator_deep, operator_none, comparison_first, comparison_refused, comparison_done, chain_at, product_item, tighter_item, no_tighter}
 use Rattle.odc_lookahead.proofs.expr.UnaryLemmas.{sign_deep, sign_found, sign_refused, operand_same}
 use Rattle.odc_lookahead.proofs.types.CastLemmas.{cast_deep, cast_kind, cast_unopened, cast_type_refused, cast_unclosed, cast_refused, cast_answer}
 use Rattle.odc_lookahead.proofs.expr.PostfixEnds.{suffixes_first_to, suffix_over, suffix_more_to, suffix_refused_to, suffix_none_to}
@@ -75,20 +75,20 @@ use Rattle.odc_parse_expr.proofs.StatementExits.{if_over, if_read, no_block, pla
 use Rattle.odc_lookahead.proofs.stmts.StatementForms.{named_kind}
 use Rattle.odc_lookahead.proofs.stmts.StatementLemmas.{bare_answer, bare_refused, defer_answer, defer_refused, if_same, simple_same, some_stmt}
 use Rattle.odc_lookahead.proofs.stmts.StmtsLemmas.{braces_answer, braces_refused, braces_unclosed, skips_end, stmt_read, stmt_refused, stmts_again, stmts_behind, stmts_deep, stmts_end_answer, stmts_last_answer, stmts_start}
-use Rattle.odc_lookahead.specs.BodyParts.{braces_line, head_line}
+use Rattle.odc_lookahead.specs.stmts.BodyParts.{braces_line, head_line}
 use Rattle.odc_parse_expr.specs.Conditionals.{head_of}
-use Rattle.odc_lookahead.specs.Headers.{ClosedFrom, begun, closed, declared, evaluated, listed}
+use Rattle.odc_lookahead.specs.stmts.Headers.{ClosedFrom, begun, closed, declared, evaluated, listed}
 use Rattle.odc_lookahead.specs.Read.{refused, seen}
-use Rattle.odc_lookahead.specs.Runs.{NotLabelled}
-use Rattle.odc_lookahead.specs.StatementSets.{continues_declaration, continues_exprs, continues_head, continues_simple, continues_statement, continues_statements}
-use Rattle.odc_lookahead.specs.Statements.{LabelledRead, labelled_part}
+use Rattle.odc_lookahead.specs.stmts.Runs.{NotLabelled}
+use Rattle.odc_lookahead.specs.stmts.StatementSets.{continues_declaration, continues_exprs, continues_head, continues_simple, continues_statement, continues_statements}
+use Rattle.odc_lookahead.specs.stmts.Statements.{LabelledRead, labelled_part}
 use Rattle.odc_syntax.specs.declared.grammar.Mode.TheVariants.{Free, Header}
 use Rattle.odc_syntax.specs.declared.token.Token.{Token}
 use Rattle.odc_syntax.specs.Tree.{Expr, Stmt}
-use Rattle.odc_lookahead.specs.Headers as header
+use Rattle.odc_lookahead.specs.stmts.Headers as header
 use Rattle.odc_parse_expr.specs.SwitchForms as switch_forms
-use Rattle.odc_lookahead.specs.SwitchParts.{switch_head, by_value, switched}
-use Rattle.odc_lookahead.specs.SwitchSets.{continues_span, begins_items, continues_cases, before_cases}
+use Rattle.odc_lookahead.specs.stmts.SwitchParts.{switch_head, by_value, switched}
+use Rattle.odc_lookahead.specs.stmts.SwitchSets.{continues_span, begins_items, continues_cases, before_cases}
 use Rattle.odc_lookahead.proofs.loops.SpanLemmas.{span_refused, from_read, span_alone_answer, through_refused, through_answer, through_deep, below_refused, below_answer, below_deep}
 use Rattle.odc_lookahead.proofs.switches.ItemLemmas.{items_refused, items_first, items_none_answer, items_more_refused, items_more_read, items_deep, items_answer}
 use Rattle.odc_lookahead.proofs.switches.CasesLemmas.{cases_start, case_at, case_deep, case_items_refused, case_items, case_no_colon, case_colon, case_body_refused, case_answer, cases_answer}
@@ -99,8 +99,8 @@ use Rattle.odc_lookahead.proofs.switches.SwitchValues as switch_values
 use Rattle.odc_lookahead.proofs.switches.SwitchRuns.{listed_over}
 use Rattle.odc_lookahead.proofs.switches.SwitchAnswers.{switch_unopened, switch_cases_refused, switch_unclosed, switch_answer, goes_on_clause, condition_as}
 use Rattle.odc_parse_expr.specs.LoopForms as loop_form
-use Rattle.odc_lookahead.specs.Loops.{steps_line, after_line}
-use Rattle.odc_lookahead.specs.RunBounds as run_bound
+use Rattle.odc_lookahead.specs.stmts.Loops.{steps_line, after_line}
+use Rattle.odc_lookahead.specs.stmts.RunBounds as run_bound
 use Rattle.odc_lookahead.proofs.separated.LastItems as last_items
 use Rattle.odc_lookahead.proofs.headers.ListBounds.{run_length}
 use Rattle.odc_parse_expr.proofs.LoopExits as loop_exit
@@ -184,20 +184,11 @@ binary::comparison-returns-in-Err-item-clause-exact t c =
     (comparison_first c.args.mode c.args.depth c.args.tokens.now (expr c.in-Ok.read.tree) c.in-Ok.read.height c.in-Ok.read.rest.now c.in-Ok.ensures.exact) (omega arith)
     (record { is = c.in-Some.ensures.is; op_is = c.in-Some.ensures.op; level_is = c.in-Some.ensures.level }) c.in-Err-item.ensures.exact)
 
-pub binary::item-returns-in-Or-clause-exact : goal.binary::item-returns-in-Or-clause-exact
-binary::item-returns-in-Or-clause-exact t c = item_at c.args.of Or c.args.mode c.args.depth c.args.tokens.now _ c.in-Or.is c.level.ensures.exact
+pub binary::item-returns-in-Some-clause-exact : goal.binary::item-returns-in-Some-clause-exact
+binary::item-returns-in-Some-clause-exact t c = tighter_item c.args.of c.in-Some.next c.args.mode c.args.depth c.args.tokens.now _ (sym c.tighter.ensures.is ∙ c.in-Some.is) c.level.ensures.exact
 
-pub binary::item-returns-in-And-clause-exact : goal.binary::item-returns-in-And-clause-exact
-binary::item-returns-in-And-clause-exact t c = item_at c.args.of And c.args.mode c.args.depth c.args.tokens.now _ c.in-And.is c.level-in-And.ensures.exact
-
-pub binary::item-returns-in-Comparison-clause-exact : goal.binary::item-returns-in-Comparison-clause-exact
-binary::item-returns-in-Comparison-clause-exact t c = item_at c.args.of Comparison c.args.mode c.args.depth c.args.tokens.now _ c.in-Comparison.is c.level-in-Comparison.ensures.exact
-
-pub binary::item-returns-in-Sum-clause-exact : goal.binary::item-returns-in-Sum-clause-exact
-binary::item-returns-in-Sum-clause-exact t c = item_at c.args.of Sum c.args.mode c.args.depth c.args.tokens.now _ c.in-Sum.is c.level-in-Sum.ensures.exact
-
-pub binary::item-returns-in-Product-clause-exact : goal.binary::item-returns-in-Product-clause-exact
-binary::item-returns-in-Product-clause-exact t c = product_item c.args.of c.args.mode c.args.depth c.args.tokens.now _ c.in-Product.is c.unary.ensures.exact
+pub binary::item-returns-in-None-clause-exact : goal.binary::item-returns-in-None-clause-exact
+binary::item-returns-in-None-clause-exact t c = product_item c.args.of c.args.mode c.args.depth c.args.tokens.now _ (no_tighter c.args.of (sym c.tighter.ensures.is ∙ c.in-None.is)) c.unary.ensures.exact
 
 pub binary::level-returns-in-Comparison-clause-exact : goal.binary::level-returns-in-Comparison-clause-exact
 binary::level-returns-in-Comparison-clause-exact t c = chain_at c.args.level Comparison c.args.mode c.args.depth c.args.tokens.now _ c.in-Comparison.is c.comparison.ensures.exact
@@ -404,11 +395,11 @@ arguments::arguments-returns-in-Err-clause-exact t c = λ k.
 
 pub arguments::arguments-returns-in-Some-end-clause-exact : goal.arguments::arguments-returns-in-Some-end-clause-exact
 arguments::arguments-returns-in-Some-end-clause-exact t c = λ k.
-    arguments_answer c.args.close k c.args.depth c.args.tokens.now c.items.args.items _ c.in-Ok.read.tree _ c.in-Ok.read.rest.now c.in-Some-end.token c.in-Ok-after_item.found.1.now
+    arguments_answer c.args.close k c.args.depth c.args.tokens.now c.items.args.items _ c.in-Ok.read.tree _ c.in-Ok.read.rest.now c.in-Some-end.close c.in-Ok-after_item.found.1.now
     (item_read c.args.close k c.args.depth c.args.tokens.now c.items.args.items c.items.height c.items.rest.now (argument c.in-Ok.read.tree) c.in-Ok.read.height _ c.in-Ok.read.rest.now
     (c.items.invariant.led k) c.items.invariant.low c.in-Ok.ensures.exact (omega (arith, c.max-height.ensures)))
     c.in_ok-args.ensures (c.within.ensures.0 c.in-Ok-after_item.ensures.within)
-    (ended_of c.args.close c.in-Ok.read.rest.now c.in-Ok-after_item.found.0 c.in-Some-end.token c.in-Ok-after_item.found.1.now c.in-Some-end.is c.in-Ok-after_item.ensures.ended)
+    (ended_of c.args.close c.in-Ok.read.rest.now c.in-Ok-after_item.found.0 c.in-Some-end.close c.in-Ok-after_item.found.1.now c.in-Some-end.is c.in-Ok-after_item.ensures.ended)
 
 pub arguments::arguments-items-preserved : goal.arguments::arguments-items-preserved
 arguments::arguments-items-preserved t c = record {
@@ -2218,19 +2209,19 @@ pub loops::clauses-returns-in-Range-clause-exact : goal.loops::clauses-returns-i
 loops::clauses-returns-in-Range-clause-exact t c = λ k f d s. c.over.ensures.exact c.args.tokens.now k (loop_front.front_range c.args.tokens.now c.front_of-found.result.1.now c.front_of-found.result.0 c.in-Range.names c.in-Range.is c.front_of-found.ensures)
 
 pub loops::clauses-returns-then-depth-cost-clause-exact : goal.loops::clauses-returns-then-depth-cost-clause-exact
-loops::clauses-returns-then-depth-cost-clause-exact t c = λ k f d s. loop_front.one_low c.args.depth c.args.token c.args.tokens.now c.front_of-found.result.1.now c.front_of-found.result.0 c.in-One.reference c.one_over.result (record { is_for = k; no_brace = f; no_do = d; no_semicolon = s }) c.in-One.is c.front_of-found.ensures (omega (arith, c.cost.ensures)) c.one_over.ensures
+loops::clauses-returns-then-depth-cost-clause-exact t c = λ k f d s. loop_front.one_low c.args.depth c.args.token c.args.tokens.now c.front_of-found.result.1.now c.front_of-found.result.0 c.in-One.sign c.one_over.result (record { is_for = k; no_brace = f; no_do = d; no_semicolon = s }) c.in-One.is c.front_of-found.ensures (omega (arith, c.cost.ensures)) c.one_over.ensures
 
 pub loops::clauses-returns-else-depth-cost-clause-exact : goal.loops::clauses-returns-else-depth-cost-clause-exact
-loops::clauses-returns-else-depth-cost-clause-exact t c = λ k f d s. loop_front.one_reads c.args.depth c.args.token c.args.tokens.now c.front_of-found.result.1.now c.front_of-found.result.0 c.in-One.reference (record { is_for = k; no_brace = f; no_do = d; no_semicolon = s }) c.in-One.is c.front_of-found.ensures (omega (arith, c.cost.ensures)) c.clause.ensures.exact
+loops::clauses-returns-else-depth-cost-clause-exact t c = λ k f d s. loop_front.one_reads c.args.depth c.args.token c.args.tokens.now c.front_of-found.result.1.now c.front_of-found.result.0 c.in-One.sign (record { is_for = k; no_brace = f; no_do = d; no_semicolon = s }) c.in-One.is c.front_of-found.ensures (omega (arith, c.cost.ensures)) c.clause.ensures.exact
 
 pub loops::clauses-returns-then-depth-list_cost-clause-exact : goal.loops::clauses-returns-then-depth-list_cost-clause-exact
-loops::clauses-returns-then-depth-list_cost-clause-exact t c = λ k f d s. loop_front.more_low c.args.depth c.args.token c.args.tokens.now c.front_of-found.result.1.now c.front_of-found.result.0 c.in-More.reference c.more_over.result (record { is_for = k; no_brace = f; no_do = d; no_semicolon = s }) c.in-More.is c.front_of-found.ensures (omega (arith, c.list_cost.ensures)) c.more_over.ensures
+loops::clauses-returns-then-depth-list_cost-clause-exact t c = λ k f d s. loop_front.more_low c.args.depth c.args.token c.args.tokens.now c.front_of-found.result.1.now c.front_of-found.result.0 c.in-More.sign c.more_over.result (record { is_for = k; no_brace = f; no_do = d; no_semicolon = s }) c.in-More.is c.front_of-found.ensures (omega (arith, c.list_cost.ensures)) c.more_over.ensures
 
-pub loops::clauses-returns-then-reference-clause-exact : goal.loops::clauses-returns-then-reference-clause-exact
-loops::clauses-returns-then-reference-clause-exact t c = λ k f d s. loop_front.list_reads c.args.depth c.args.token c.args.tokens.now c.front_of-found.result.1.now c.front_of-found.result.0 c.in-More.reference (record { is_for = k; no_brace = f; no_do = d; no_semicolon = s }) c.in-More.is c.front_of-found.ensures c.if-reference.true (omega (arith, c.list_cost.ensures)) c.list.ensures.exact
+pub loops::clauses-returns-in-Reference-clause-exact : goal.loops::clauses-returns-in-Reference-clause-exact
+loops::clauses-returns-in-Reference-clause-exact t c = λ k f d s. loop_front.list_reads c.args.depth c.args.token c.args.tokens.now c.front_of-found.result.1.now c.front_of-found.result.0 c.in-More.sign (record { is_for = k; no_brace = f; no_do = d; no_semicolon = s }) c.in-More.is c.front_of-found.ensures (ap loop_form.refers c.in-Reference.is) (omega (arith, c.list_cost.ensures)) c.list.ensures.exact
 
-pub loops::clauses-returns-else-reference-clause-exact : goal.loops::clauses-returns-else-reference-clause-exact
-loops::clauses-returns-else-reference-clause-exact t c = λ k f d s. loop_front.more_reads c.args.depth c.args.token c.args.tokens.now c.front_of-found.result.1.now c.front_of-found.result.0 c.in-More.reference (record { is_for = k; no_brace = f; no_do = d; no_semicolon = s }) c.in-More.is c.front_of-found.ensures c.if-reference.false (omega (arith, c.list_cost.ensures)) c.clause-else-reference.ensures.exact
+pub loops::clauses-returns-in-Plain-clause-exact : goal.loops::clauses-returns-in-Plain-clause-exact
+loops::clauses-returns-in-Plain-clause-exact t c = λ k f d s. loop_front.more_reads c.args.depth c.args.token c.args.tokens.now c.front_of-found.result.1.now c.front_of-found.result.0 c.in-More.sign (record { is_for = k; no_brace = f; no_do = d; no_semicolon = s }) c.in-More.is c.front_of-found.ensures (ap loop_form.refers c.in-Plain.is) (omega (arith, c.list_cost.ensures)) c.clause-in-Plain.ensures.exact
 
 pub loops::clauses-returns-then-depth-eq0-clause-exact : goal.loops::clauses-returns-then-depth-eq0-clause-exact
 loops::clauses-returns-then-depth-eq0-clause-exact t c = λ k f d s. loop_front.address_low c.args.depth c.args.token c.args.tokens.now c.front_of-found.result.1.now c.front_of-found.result.0 c.no_operand.result c.if-depth-eq0.true (record { is_for = k; no_brace = f; no_do = d; no_semicolon = s }) c.in-Address.is c.front_of-found.ensures c.no_operand.ensures
@@ -2244,14 +2235,14 @@ loops::clauses-returns-then-depth-eq0-2-clause-exact t c = λ k f d s. loop_fron
 pub loops::clauses-returns-else-depth-eq0-2-clause-exact : goal.loops::clauses-returns-else-depth-eq0-2-clause-exact
 loops::clauses-returns-else-depth-eq0-2-clause-exact t c = λ k f d s. loop_front.other_reads c.args.depth c.args.token c.args.tokens.now c.front_of-found.result.1.now c.front_of-found.result.0 (record { is_for = k; no_brace = f; no_do = d; no_semicolon = s }) c.in-Other.is c.front_of-found.ensures (omega arith) c.clause-else-depth-eq0-2.ensures.exact
 
-pub loops::more_over-returns-then-reference : goal.loops::more_over-returns-then-reference
-loops::more_over-returns-then-reference t c = loop_front.more_last c.args.reference c.args.tokens.now c.last_over.result (λ e. let bad : true ≡ false = sym c.if-reference.true ∙ e in cc) c.last_over.ensures
+pub loops::more_over-returns-in-Reference : goal.loops::more_over-returns-in-Reference
+loops::more_over-returns-in-Reference t c = loop_front.more_last (loop_form.refers c.args.sign) c.args.tokens.now c.last_over.result (λ e. let bad : true ≡ false = sym (ap loop_form.refers c.in-Reference.is) ∙ e in cc) c.last_over.ensures
 
 pub loops::more_over-returns-in-Some : goal.loops::more_over-returns-in-Some
-loops::more_over-returns-in-Some t c = loop_front.more_colon c.args.reference c.args.tokens.now c.in-Some.rest.now c.in-Some._name c.if-reference.false c.in-Some.ensures.is
+loops::more_over-returns-in-Some t c = loop_front.more_colon (loop_form.refers c.args.sign) c.args.tokens.now c.in-Some.rest.now c.in-Some._name (ap loop_form.refers c.in-Plain.is) c.in-Some.ensures.is
 
 pub loops::more_over-returns-in-None : goal.loops::more_over-returns-in-None
-loops::more_over-returns-in-None t c = loop_front.more_last c.args.reference c.args.tokens.now c.last_over-in-None.result (λ e. c.in-None.ensures.none) c.last_over-in-None.ensures
+loops::more_over-returns-in-None t c = loop_front.more_last (loop_form.refers c.args.sign) c.args.tokens.now c.last_over-in-None.result (λ e. c.in-None.ensures.none) c.last_over-in-None.ensures
 
 pub loops::over-returns-in-Err-clause-exact : goal.loops::over-returns-in-Err-clause-exact
 loops::over-returns-in-Err-clause-exact t c = λ ts k z. loop_exit.over_refused c.args.depth c.args.token ts c.args.names c.args.tokens.now c.in-Err.error k z c.in-Err.ensures.exact

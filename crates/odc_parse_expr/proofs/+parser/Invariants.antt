@@ -15,11 +15,11 @@ use Rattle.odc_syntax.specs.declared.token.Token.{Token}
 use Rattle.odc_syntax.specs.declared.grammar.Level.TheVariants.{Or}
 use Rattle.odc_syntax.specs.Grammar as g
 use Rattle.odc_lookahead.specs.Exact.{Found, one}
-use Rattle.odc_lookahead.specs.Statements.{BeginsWith}
+use Rattle.odc_lookahead.specs.stmts.Statements.{BeginsWith}
 use Rattle.odc_lookahead.proofs.expr.ExprsLemmas.{ExprsAt}
 use Rattle.odc_lookahead.proofs.stmts.StmtsLemmas.{StmtsAt}
 use Rattle.odc_syntax.specs.declared.grammar.Mode.TheVariants.{Free}
-use Rattle.odc_lookahead.specs.SwitchSets.{continues_span}
+use Rattle.odc_lookahead.specs.stmts.SwitchSets.{continues_span}
 use Rattle.odc_lookahead.proofs.switches.CasesLemmas.{CasesAt}
 use Rattle.odc_lookahead.proofs.switches.ItemLemmas.{ItemsAt}
 use Rattle.odc_parse_expr.proofs.+parser.Given as goal

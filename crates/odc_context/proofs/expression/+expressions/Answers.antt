@@ -12,7 +12,7 @@ use Rattle.odc_context.specs.View.{own}
 use Rattle.odc_context.proofs.Joins.{parts}
 use Rattle.odc_context.proofs.Lists.{exprs_more, exprs_end}
 use Rattle.odc_context.proofs.Sources.{depth_here, count_is}
-use Rattle.odc_context.proofs.Values.{few}
+use Rattle.odc_context.proofs.simulation.Values.{few}
 use Rattle.odc_context.proofs.expression.+expressions.Goals as goal
 
 pub emit_expr-emit_expr-requires : goal.emit_expr-emit_expr-requires

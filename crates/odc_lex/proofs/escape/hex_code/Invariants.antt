@@ -1,6 +1,6 @@
 use Rattle.std.proofs.Common.{◌≡◌, ◌<◌, ◌^◌, true, take}
 use Rattle.std.specs.List.{list_all}
-use Rattle.odc_syntax.specs.Texts.{hex_value, is_hex_digit}
+use Rattle.odc_syntax.specs.lexical.Texts.{hex_value, is_hex_digit}
 use Rattle.odc_lex.proofs.escape.hex_code.Given as goal
 
 abbrev pub invariant-loop-d : goal.invariant-loop-d

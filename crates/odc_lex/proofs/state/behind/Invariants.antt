@@ -1,5 +1,5 @@
 use Rattle.std.proofs.Common.{◌≡◌, ◌≤◌, ◌+◌, drop}
-use Rattle.odc_syntax.specs.Lexes.{behind}
+use Rattle.odc_syntax.specs.lexical.Lexes.{behind}
 use Rattle.odc_lex.proofs.state.behind.Given as goal
 
 abbrev pub invariant-loop-b : goal.invariant-loop-b

@@ -1,5 +1,5 @@
 use Rattle.std.proofs.Common.{refl}
-use Rattle.odc_syntax.specs.Texts.{is_plain_rune}
+use Rattle.odc_syntax.specs.lexical.Texts.{is_plain_rune}
 use Rattle.odc_lex.proofs.StretchLemmas.{one_found, one_lost, one_absent}
 use Rattle.odc_lex.proofs.stretch.rune_len.Goals as goal
 

@@ -1,5 +1,5 @@
 use Rattle.std.proofs.Common.{refl}
-use Rattle.odc_syntax.specs.Signs.{signs}
+use Rattle.odc_syntax.specs.lexical.Signs.{signs}
 use Rattle.odc_lex.proofs.TableLemmas.{single_at, nothing_at}
 use Rattle.odc_lex.proofs.table.first_sign.Goals as goal
 

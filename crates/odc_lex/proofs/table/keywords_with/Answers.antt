@@ -1,7 +1,7 @@
 use Rattle.std.proofs.Common.{false, sym}
 use Rattle.std.specs.Prelude.{◌≡◌, ◌==◌}
 use Rattle.std.proofs.lemmas.Bool.{ne_eqb}
-use Rattle.odc_syntax.specs.Names.{keywords}
+use Rattle.odc_syntax.specs.lexical.Names.{keywords}
 use Rattle.odc_lex.proofs.table.keywords_with.Goals as goal
 
 pub returns-then-first-eq97 : goal.returns-then-first-eq97

@@ -1,5 +1,5 @@
 use Rattle.std.proofs.Common.{◌≡◌, drop}
-use Rattle.odc_syntax.specs.Names.{kind_among}
+use Rattle.odc_syntax.specs.lexical.Names.{kind_among}
 use Rattle.odc_lex.specs.Table.{rows_of}
 use Rattle.odc_lex.proofs.table.kind_among.Given as goal
 

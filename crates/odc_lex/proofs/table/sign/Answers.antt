@@ -1,6 +1,6 @@
 use Rattle.std.proofs.Common.{refl}
 use Rattle.std.specs.Prelude.{Option, Some, None, IfSome, IfNone, List, ℕ}
-use Rattle.odc_syntax.specs.Signs.{signs}
+use Rattle.odc_syntax.specs.lexical.Signs.{signs}
 use Rattle.odc_lex.specs.declared.number.Lexeme.{Lexeme}
 use Rattle.odc_lex.specs.Table.{first_front, FindsRow, SignFront, NoSign}
 use Rattle.odc_lex.proofs.TableLemmas.{sign_found, sign_missing}

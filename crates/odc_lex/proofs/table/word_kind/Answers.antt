@@ -1,5 +1,5 @@
 use Rattle.std.proofs.Common.{sym, ap}
-use Rattle.odc_syntax.specs.Names.{keywords, word_kind}
+use Rattle.odc_syntax.specs.lexical.Names.{keywords, word_kind}
 use Rattle.odc_lex.proofs.TableLemmas.{no_word, word_told}
 use Rattle.odc_lex.proofs.table.word_kind.Goals as goal
 

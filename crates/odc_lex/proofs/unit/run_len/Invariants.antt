@@ -1,5 +1,5 @@
 use Rattle.std.proofs.Common.{◌≤◌, ◌-◌, length, take}
-use Rattle.odc_syntax.specs.Words.{Run}
+use Rattle.odc_syntax.specs.lexical.Words.{Run}
 use Rattle.odc_lex.specs.Unit.{IsUnit}
 use Rattle.odc_lex.proofs.unit.run_len.Given as goal
 

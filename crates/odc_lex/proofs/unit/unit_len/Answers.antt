@@ -1,5 +1,5 @@
 use Rattle.std.proofs.Common.{sym, subst}
-use Rattle.odc_syntax.specs.Longest.{FindsUnit}
+use Rattle.odc_syntax.specs.lexical.Longest.{FindsUnit}
 use Rattle.odc_lex.specs.Unit.{IsUnit}
 use Rattle.odc_lex.proofs.unit.unit_len.Goals as goal
 

@@ -1,6 +1,6 @@
 use Rattle.std.proofs.Common.{◌≡◌, ◌∙◌, sym, ap, false, drop, bytes_eq, arith}
 use Rattle.std.proofs.lemmas.List.{drop_all}
-use Rattle.odc_syntax.specs.Value.{unescaped}
+use Rattle.odc_syntax.specs.lexical.Value.{unescaped}
 use Rattle.odc_lex.specs.Value.{reading_of}
 use Rattle.odc_lex.proofs.ValueLemmas.{other, past}
 use Rattle.odc_lex.proofs.value.is_unescaped.Goals as goal

@@ -1,5 +1,5 @@
 use Rattle.std.proofs.Common.{◌≡◌, ◌≤◌, length, drop, bytes_eq}
-use Rattle.odc_syntax.specs.Value.{outside, unescaped}
+use Rattle.odc_syntax.specs.lexical.Value.{outside, unescaped}
 use Rattle.odc_lex.specs.Value.{reading_of, HasRoom}
 use Rattle.odc_lex.proofs.value.is_unescaped.Given as goal
 

@@ -14,12 +14,12 @@ behind_again close ts us (Some t) rest p c = c
 behind_again close ts us None rest p c =
     record { parted = subst (λ (l : List Token). Parted ts l) (sym c.is) p; open_ = subst (λ (l : List Token). StartsWithout close l) (sym c.is) c.open_ }
 
-pub returns-then-within-2-clause-ended : goal.returns-then-within-2-clause-ended
-returns-then-within-2-clause-ended c =
+pub returns-in-Within-fit-clause-ended : goal.returns-in-Within-fit-clause-ended
+returns-in-Within-fit-clause-ended c =
     behind_ended c.args.close c.args.tokens.now c.in-Some-strip.rest.now c.behind_comma.result.0 c.behind_comma.result.1.now
     (record { comma = c.in-Some-strip._comma; is = c.in-Some-strip.ensures.is; kind = c.in-Some-strip.ensures.kind }) c.behind_comma.ensures.ended
 
-pub returns-then-within-2-clause-again : goal.returns-then-within-2-clause-again
-returns-then-within-2-clause-again c =
+pub returns-in-Within-fit-clause-again : goal.returns-in-Within-fit-clause-again
+returns-in-Within-fit-clause-again c =
     behind_again c.args.close c.args.tokens.now c.in-Some-strip.rest.now c.behind_comma.result.0 c.behind_comma.result.1.now
     (record { comma = c.in-Some-strip._comma; is = c.in-Some-strip.ensures.is; kind = c.in-Some-strip.ensures.kind }) c.behind_comma.ensures.again

@@ -1,4 +1,4 @@
-use Rattle.odc_lookahead.specs.Runs.{unnamed}
+use Rattle.odc_lookahead.specs.stmts.Runs.{unnamed}
 use Rattle.odc_lookahead.proofs.stmts.RunExits.{run_declared, run_declares, run_again, run_ended}
 use Rattle.odc_lookahead.proofs.name_lists.names_end.Goals as goal
 

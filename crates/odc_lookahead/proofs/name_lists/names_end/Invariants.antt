@@ -1,6 +1,6 @@
 use Rattle.std.proofs.Common.{length, List}
 use Rattle.odc_syntax.specs.declared.token.Token.{Token}
-use Rattle.odc_lookahead.specs.Runs.{Declares, Undeclared}
+use Rattle.odc_lookahead.specs.stmts.Runs.{Declares, Undeclared}
 use Rattle.odc_lookahead.proofs.name_lists.names_end.Given as goal
 
 abbrev pub invariant-names : goal.invariant-names

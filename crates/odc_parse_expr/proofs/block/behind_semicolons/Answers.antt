@@ -1,5 +1,5 @@
 use Rattle.std.proofs.Common.{arith, ap, length}
-use Rattle.odc_lookahead.specs.Runs.{none}
+use Rattle.odc_lookahead.specs.stmts.Runs.{none}
 use Rattle.odc_lookahead.proofs.stmts.RunExits.{skips_one}
 use Rattle.odc_parse_expr.proofs.block.behind_semicolons.Goals as goal
 

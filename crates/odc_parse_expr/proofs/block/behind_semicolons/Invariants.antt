@@ -1,6 +1,6 @@
 use Rattle.std.proofs.Common.{length, ◌≤◌, List}
 use Rattle.odc_syntax.specs.declared.token.Token.{Token}
-use Rattle.odc_lookahead.specs.Runs.{Skips}
+use Rattle.odc_lookahead.specs.stmts.Runs.{Skips}
 use Rattle.odc_parse_expr.proofs.block.behind_semicolons.Given as goal
 
 abbrev pub invariant-skip : goal.invariant-skip

@@ -1,4 +1,4 @@
-use Rattle.odc_lookahead.specs.LoopStarts.{plain}
+use Rattle.odc_lookahead.specs.stmts.LoopStarts.{plain}
 use Rattle.odc_parse_expr.proofs.LoopFronts.{signed_first}
 use Rattle.odc_parse_expr.proofs.loops.signed.Goals as goal
 

@@ -1,4 +1,4 @@
-use Rattle.odc_lookahead.specs.RunBounds.{item}
+use Rattle.odc_lookahead.specs.stmts.RunBounds.{item}
 use Rattle.odc_lookahead.proofs.separated.LastItems.{run_goes_on, unnamed_item, last_name}
 use Rattle.odc_parse_expr.proofs.run_bounds.last_item.Goals as goal
 

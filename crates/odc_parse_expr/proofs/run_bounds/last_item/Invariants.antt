@@ -1,5 +1,5 @@
 use Rattle.std.proofs.Common.{length}
-use Rattle.odc_lookahead.specs.RunBounds.{Run}
+use Rattle.odc_lookahead.specs.stmts.RunBounds.{Run}
 use Rattle.odc_parse_expr.proofs.run_bounds.last_item.Given as goal
 
 abbrev pub invariant-names : goal.invariant-names

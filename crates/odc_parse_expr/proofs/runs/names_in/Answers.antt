@@ -1,4 +1,4 @@
-use Rattle.odc_lookahead.specs.Headers.{unnamed}
+use Rattle.odc_lookahead.specs.stmts.Headers.{unnamed}
 use Rattle.odc_lookahead.proofs.stmts.RunExits.{run_listed, run_alone}
 use Rattle.odc_parse_expr.proofs.runs.names_in.Goals as goal
 

@@ -1,6 +1,6 @@
 use Rattle.std.proofs.Common.{List, sym, subst}
 use Rattle.odc_syntax.specs.declared.token.Token.{Token}
-use Rattle.odc_lookahead.specs.SwitchParts.{WordRead, plain, plain_word}
+use Rattle.odc_lookahead.specs.stmts.SwitchParts.{WordRead, plain, plain_word}
 use Rattle.odc_lookahead.proofs.switches.SwitchLemmas.{partial_refused, no_switch, partial_read}
 use Rattle.odc_parse_expr.proofs.switches.switch_word.Goals as goal
 

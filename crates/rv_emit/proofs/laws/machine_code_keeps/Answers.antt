@@ -1,4 +1,4 @@
-use Rattle.rv_emit.proofs.Begin.{keeps}
+use Rattle.rv_emit.proofs.simulation.Begin.{keeps}
 use Rattle.rv_emit.proofs.laws.machine_code_keeps.Goals as goal
 
 pub returns : goal.returns

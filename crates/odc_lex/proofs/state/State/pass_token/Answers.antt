@@ -1,7 +1,7 @@
 use Rattle.std.proofs.Common.{is_ok, refl, ◌∙◌, ap, ◌+◌, [], ◌∷◌, ◌++◌, length}
 use Rattle.std.proofs.ResultArms.{chosen}
 use Rattle.odc_syntax.specs.declared.token.Token.{Token}
-use Rattle.odc_syntax.specs.Wording.{word_of}
+use Rattle.odc_syntax.specs.lexical.Wording.{word_of}
 use Rattle.odc_lex.specs.State.{ending_behind}
 use Rattle.odc_lex.proofs.StateLemmas.{token_total}
 use Rattle.odc_lex.proofs.state.State.pass_token.Goals as goal
