@@ -4,14 +4,14 @@ use Rattle.std.specs.Prelude.{Option, Some, None, if◌then◌else◌, ◌==◌,
 use Rattle.odc_text.specs.declared.place.Place.{Place}
 use Rattle.odc_text.specs.declared.check.Check.{Check}
 use Rattle.odc_text.specs.declared.check.Check.TheVariants as check
-use Rattle.odc_program.specs.Run.{pure, ◌>>=◌}
-use Rattle.odc_program.specs.Bytes.{Pointer, nil, Value, number_of, int_of, pointer_of, procedure_of, piece}
-use Rattle.odc_program.specs.Tree.{in_order}
-use Rattle.odc_program.specs.Program as q
-use Rattle.odc_program.specs.State as s
-use Rattle.odc_program.specs.Places as p
-use Rattle.odc_program.specs.Operators as o
-use Rattle.odc_program.specs.Calling as c
+use Rattle.odc_program.specs.States.Run.{pure, ◌>>=◌}
+use Rattle.odc_program.specs.States.Bytes.{Pointer, nil, Value, number_of, int_of, pointer_of, procedure_of, piece}
+use Rattle.odc_program.specs.Trees.Tree.{in_order}
+use Rattle.odc_program.specs.Trees.Program as q
+use Rattle.odc_program.specs.States.State as s
+use Rattle.odc_program.specs.Kinds.Places as p
+use Rattle.odc_program.specs.Kinds.Operators as o
+use Rattle.odc_program.specs.Kinds.Calling as c
 use Rattle.odc_program.proofs.Alike as a
 use Rattle.odc_program.proofs.PlacesAlike as pl
 

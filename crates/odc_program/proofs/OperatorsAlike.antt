@@ -10,13 +10,13 @@ use Rattle.odc_program.specs.declared.ops.UnaryOp.{UnaryOp}
 use Rattle.odc_program.specs.declared.ops.UnaryOp.TheVariants as un
 use Rattle.odc_program.specs.declared.ops.BinaryOp.{BinaryOp}
 use Rattle.odc_program.specs.declared.ops.BinaryOp.TheVariants as op
-use Rattle.odc_program.specs.Run.{pure, ◌>>=◌, moved}
-use Rattle.odc_program.specs.Bytes.{Value, number_of, int_bytes, int_of, truth_bytes, pointer_of, procedure_of, piece}
-use Rattle.odc_program.specs.Program as q
-use Rattle.odc_program.specs.State as s
-use Rattle.odc_program.specs.Places as p
-use Rattle.odc_program.specs.Operators as o
-use Rattle.odc_program.specs.Printing as w
+use Rattle.odc_program.specs.States.Run.{pure, ◌>>=◌, moved}
+use Rattle.odc_program.specs.States.Bytes.{Value, number_of, int_bytes, int_of, truth_bytes, pointer_of, procedure_of, piece}
+use Rattle.odc_program.specs.Trees.Program as q
+use Rattle.odc_program.specs.States.State as s
+use Rattle.odc_program.specs.Kinds.Places as p
+use Rattle.odc_program.specs.Kinds.Operators as o
+use Rattle.odc_program.specs.Kinds.Printing as w
 use Rattle.odc_program.proofs.Alike as a
 use Rattle.odc_program.proofs.PlacesAlike as pl
 

@@ -4,12 +4,12 @@ use Rattle.std.specs.Prelude.{ℤ, pos, Option, Some, None, if◌then◌else◌,
 use Rattle.odc_text.specs.declared.place.Place.{Place}
 use Rattle.odc_text.specs.declared.check.Check.{Check}
 use Rattle.odc_text.specs.declared.check.Check.TheVariants as check
-use Rattle.odc_program.specs.Run.{pure, ◌>>=◌, moved}
-use Rattle.odc_program.specs.Bytes.{Pointer, nil, to, Value, number_of, zeros, int_bytes, int_of, truth_bytes, pointer_bytes, pointer_of, piece, patched}
-use Rattle.odc_program.specs.Program as q
-use Rattle.odc_program.specs.Layouts as l
-use Rattle.odc_program.specs.State as s
-use Rattle.odc_program.specs.Places as p
+use Rattle.odc_program.specs.States.Run.{pure, ◌>>=◌, moved}
+use Rattle.odc_program.specs.States.Bytes.{Pointer, nil, to, Value, number_of, zeros, int_bytes, int_of, truth_bytes, pointer_bytes, pointer_of, piece, patched}
+use Rattle.odc_program.specs.Trees.Program as q
+use Rattle.odc_program.specs.Kinds.Layouts as l
+use Rattle.odc_program.specs.States.State as s
+use Rattle.odc_program.specs.Kinds.Places as p
 use Rattle.odc_program.proofs.Alike as a
 
 module _ (S : s.State → s.State → Type 0) (Stops : s.Leave → s.State → a.Tail → Type 0) (r : a.Alike S Stops) where

@@ -6,11 +6,11 @@ use Rattle.odc_text.specs.declared.check.Check.{Check}
 use Rattle.odc_text.specs.Run.{going}
 use Rattle.odc_program.specs.declared.ops.BinaryOp.{BinaryOp}
 use Rattle.odc_program.specs.declared.ops.BinaryOp.TheVariants as op
-use Rattle.odc_program.specs.Run.{Res, ok, stop, pure, halt, ◌>>=◌}
-use Rattle.odc_program.specs.Bytes.{Value, zeros, int_bytes}
-use Rattle.odc_program.specs.State as s
-use Rattle.odc_program.specs.Places as p
-use Rattle.odc_program.specs.Statements as t
+use Rattle.odc_program.specs.States.Run.{Res, ok, stop, pure, halt, ◌>>=◌}
+use Rattle.odc_program.specs.States.Bytes.{Value, zeros, int_bytes}
+use Rattle.odc_program.specs.States.State as s
+use Rattle.odc_program.specs.Kinds.Places as p
+use Rattle.odc_program.specs.Runs.Statements as t
 use Rattle.odc_program.proofs.Alike as a
 use Rattle.odc_program.proofs.PlacesAlike as pl
 use Rattle.odc_program.proofs.OperatorsAlike as ol

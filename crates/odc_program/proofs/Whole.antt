@@ -7,16 +7,16 @@ use Rattle.odc_text.specs.declared.check.Check.TheVariants as check
 use Rattle.odc_text.specs.Run.{going}
 use Rattle.odc_program.specs.declared.ops.Builtin.{Builtin}
 use Rattle.odc_program.specs.declared.ops.Builtin.TheVariants as bi
-use Rattle.odc_program.specs.Run.{pure, ◌>>=◌}
-use Rattle.odc_program.specs.Bytes.{Value, zeros}
-use Rattle.odc_program.specs.Tree as t
-use Rattle.odc_program.specs.Program as q
-use Rattle.odc_program.specs.State as s
-use Rattle.odc_program.specs.Places as p
-use Rattle.odc_program.specs.Calling as c
-use Rattle.odc_program.specs.Expressions as e
-use Rattle.odc_program.specs.Statements as f
-use Rattle.odc_program.specs.Source as x
+use Rattle.odc_program.specs.States.Run.{pure, ◌>>=◌}
+use Rattle.odc_program.specs.States.Bytes.{Value, zeros}
+use Rattle.odc_program.specs.Trees.Tree as t
+use Rattle.odc_program.specs.Trees.Program as q
+use Rattle.odc_program.specs.States.State as s
+use Rattle.odc_program.specs.Kinds.Places as p
+use Rattle.odc_program.specs.Kinds.Calling as c
+use Rattle.odc_program.specs.Kinds.Expressions as e
+use Rattle.odc_program.specs.Runs.Statements as f
+use Rattle.odc_program.specs.Runs.Source as x
 use Rattle.odc_program.proofs.Alike as a
 use Rattle.odc_program.proofs.PlacesAlike as pl
 use Rattle.odc_program.proofs.OperatorsAlike as ol

@@ -3,16 +3,16 @@
 ghost use Rattle.std.specs.Prelude.{◌≡◌, ℕ, pos, List, [], ◌∷◌, ◌++◌, map, replicate, true, false, codes};
 ghost use Rattle.odc_text.specs.Run.{exited, checked, strayed, going, out, err};
 ghost use Rattle.odc_text.specs.declared.check.Check.TheVariants as check;
-ghost use Rattle.odc_program.specs.Well.{well};
-ghost use Rattle.odc_program.specs.Told.{told, asked, Prints, Leaves};
-ghost use Rattle.odc_program.specs.Bytes.{global, nil, to};
+ghost use Rattle.odc_program.specs.Typing.Well.{well};
+ghost use Rattle.odc_program.specs.Rows.Told.{told, asked, Prints, Leaves};
+ghost use Rattle.odc_program.specs.States.Bytes.{global, nil, to};
 ghost use Rattle.odc_program.specs.Laws.{StoppedStays, OnlyGrows};
-ghost use Rattle.odc_program.specs.Writing.{at};
-ghost use Rattle.odc_program.specs.Tree as tree;
-ghost use Rattle.odc_program.specs.First as first;
-ghost use Rattle.odc_program.specs.Second as second;
-ghost use Rattle.odc_program.specs.Third as third;
-ghost use Rattle.odc_program.specs.Ill as ill;
+ghost use Rattle.odc_program.specs.Rows.Writing.{at};
+ghost use Rattle.odc_program.specs.Trees.Tree as tree;
+ghost use Rattle.odc_program.specs.Rows.First as first;
+ghost use Rattle.odc_program.specs.Rows.Second as second;
+ghost use Rattle.odc_program.specs.Rows.Third as third;
+ghost use Rattle.odc_program.specs.Rows.Ill as ill;
 
 /// An `i8` wraps.
 pub fn wraps()

@@ -2,7 +2,7 @@
 
 ghost use Rattle.std.specs.Prelude.{◌≡◌, ◌↔◌, ◌++◌, [], ◌∷◌, Bool, true, List, IfOk, OnOk, All};
 ghost use Rattle.odc_program.specs.declared.program.CheckError.TheVariants.{Memory};
-ghost use Rattle.odc_program.specs.Instances.{Instance, Need, Answer, gives, FaultTold, instance, procedure};
+ghost use Rattle.odc_program.specs.Views.Instances.{Instance, Need, Answer, gives, FaultTold, instance, procedure};
 
 use crate::ops::Constant;
 use crate::tree::{TStmt, TypeId};

@@ -147,43 +147,43 @@ pub struct TypeCase {
 }
 
 impl Model for TExpr {
-    ghost use Rattle.odc_program.specs.Tree as tree;
-    ghost use Rattle.odc_program.specs.Codes.{coded_expr};
+    ghost use Rattle.odc_program.specs.Trees.Tree as tree;
+    ghost use Rattle.odc_program.specs.Views.Codes.{coded_expr};
 
     ghost Value = { tree.Expr };
 
     ghost coded = { coded_expr };
 
-    ghost use Rattle.odc_program.specs.View.{expr_kind};
-    ghost use Rattle.odc_program.specs.Sizes.{expr_size};
+    ghost use Rattle.odc_program.specs.Views.View.{expr_kind};
+    ghost use Rattle.odc_program.specs.Views.Sizes.{expr_size};
 
     ghost view = { λ e. tree.expr e.ty.index e.at (expr_kind e.kind.value) };
 
     ghost size = { expr_size };
 
     ghost use Rattle.std.proofs.Common.{arith};
-    ghost use Rattle.odc_program.specs.Falls.{expr_kind_falls};
+    ghost use Rattle.odc_program.specs.Views.Falls.{expr_kind_falls};
 
     ghost size_decreases = { λ e h. omega (arith, expr_kind_falls e.kind.value) };
 }
 
 impl Model for TStmt {
-    ghost use Rattle.odc_program.specs.Tree as tree;
-    ghost use Rattle.odc_program.specs.Codes.{coded_stmt};
+    ghost use Rattle.odc_program.specs.Trees.Tree as tree;
+    ghost use Rattle.odc_program.specs.Views.Codes.{coded_stmt};
 
     ghost Value = { tree.Stmt };
 
     ghost coded = { coded_stmt };
 
-    ghost use Rattle.odc_program.specs.StmtView.{stmt_kind};
-    ghost use Rattle.odc_program.specs.Sizes.{stmt_size};
+    ghost use Rattle.odc_program.specs.Views.StmtView.{stmt_kind};
+    ghost use Rattle.odc_program.specs.Views.Sizes.{stmt_size};
 
     ghost view = { λ e. tree.stmt e.at (stmt_kind e.kind.value) };
 
     ghost size = { stmt_size };
 
     ghost use Rattle.std.proofs.Common.{arith};
-    ghost use Rattle.odc_program.specs.StmtFalls.{stmt_kind_falls};
+    ghost use Rattle.odc_program.specs.Views.StmtFalls.{stmt_kind_falls};
 
     ghost size_decreases = { λ e h. omega (arith, stmt_kind_falls e.kind.value) };
 }

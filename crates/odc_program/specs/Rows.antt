@@ -1,0 +1,7 @@
+-- Small programs, and what they are asked.
+pub mod Told
+pub mod Writing
+pub mod First
+pub mod Second
+pub mod Third
+pub mod Ill

@@ -1,0 +1,122 @@
+-- Small programs that aren't well, each for one reason.
+use Rattle.std.specs.Prelude.{ℕ, ◌++◌, pos, Bool, true, false, List, [], ◌∷◌, length, Some, None, codes}
+use Rattle.odc_program.specs.declared.ops.BinaryOp.TheVariants as op
+use Rattle.odc_program.specs.declared.ops.Builtin.TheVariants as b
+use Rattle.odc_program.specs.Trees.Tree as t
+use Rattle.odc_program.specs.Trees.Program.{Program, Ty, Head, whole, address}
+use Rattle.odc_program.specs.Rows.Second.{with_helper, helper, call_help}
+use Rattle.odc_program.specs.Rows.Writing.{Subtracting, args, Error, Int, Text, Byte_, Nothing, Plain, Teller, num, of_type, bool, str, loc, elem, call, do_, give, let_, set, show, at_place, proc, main, program, saying, Bool_, Rune, U64, IntSlice, Rec, Location, types, at, node, calls, bin, st, block_of, zero, one, words}
+
+-- two variables with no eight bytes between them
+abbrev pub too_near : Program
+too_near = program (main (at_place Int 128 ∷ at_place Int 136 ∷ []) [] [] ∷ [])
+
+-- a variable that reaches the end of its frame
+abbrev pub past_frame : Program
+past_frame = program (main (at_place Int 4088 ∷ []) [] [] ∷ [])
+
+-- a truth value for an integer
+abbrev pub mistyped : Program
+mistyped = program (main (at_place Int 128 ∷ []) [] (let_ 0 (bool true) ∷ []) ∷ [])
+
+-- a variable that isn't there
+abbrev pub unknown : Program
+unknown = program (main (at_place Int 128 ∷ []) [] (show (loc Int 1 ∷ []) ∷ []) ∷ [])
+
+-- one need twice
+abbrev pub needs_twice : Program
+needs_twice = program (main [] (1 ∷ 1 ∷ []) [] ∷ proc Plain 0 0 [] [] [] ∷ [])
+
+-- a need that isn't there
+abbrev pub needs_none : Program
+needs_none = program (main [] (5 ∷ []) [] ∷ [])
+
+-- an argument too many
+abbrev pub too_many : Program
+too_many = program (main [] (1 ∷ []) (do_ (call Nothing 0 (num 1 ∷ [])) ∷ []) ∷ proc Plain 0 0 [] [] [] ∷ [])
+
+-- a `main` with a result
+abbrev pub main_answers : Program
+main_answers = program (proc Teller 0 1 (at_place Int 128 ∷ []) [] (give (num 1 ∷ []) ∷ []) ∷ [])
+
+-- a byte of a string is assigned
+abbrev pub changes_text : Program
+changes_text = saying (codes "a" ∷ []) (main (at_place Text 128 ∷ []) [] (let_ 0 (str 0 1) ∷ set (elem Byte_ 20 (loc Text 0) (num 0)) (of_type Byte_ (Rattle.std.specs.Prelude.pos 98)) ∷ []) ∷ [])
+
+-- ---- statements where they can't stand
+-- the last case goes on to a next one
+abbrev pub falls_out : Program
+falls_out = program (main [] [] (st (t.switch 2 t.no_stmt (t.present (num 2)) (t.one_case (t.item (num 1) t.no_items) (block_of (st t.fallthrough ∷ [])) t.no_cases)) ∷ []) ∷ [])
+
+-- a deferred statement returns
+abbrev pub returns_late : Program
+returns_late = program (main [] [] (st (t.defer (give [])) ∷ []) ∷ [])
+
+-- a deferred statement leaves the loop around it
+abbrev pub breaks_late : Program
+breaks_late = program (main [] [] (st (t.loop 1 t.no_stmt t.absent t.no_stmt (block_of (st (t.defer (st (t.break_ 1))) ∷ []))) ∷ []) ∷ [])
+
+-- a loop that takes no turns, outside a helper
+abbrev pub counts_itself : Program
+counts_itself = program (main [] [] (st (t.counted 3 1 (bool true) (block_of [])) ∷ []) ∷ [])
+
+-- a helper that asks the context
+abbrev pub helper_allocates : Program
+helper_allocates = with_helper (helper (do_ (calls Error b.FreeAll 20 []) ∷ [])) (call_help 7 ∷ [])
+
+-- ---- operands of a wrong kind
+-- two slices are compared
+abbrev pub compares_slices : Program
+compares_slices = program (main (at_place IntSlice 128 ∷ []) [] (zero 0 ∷ show (bin Bool_ op.Equal 20 (loc IntSlice 0) (loc IntSlice 0) ∷ []) ∷ []) ∷ [])
+
+-- bits are moved by a count that may be negative
+abbrev pub signed_count : Program
+signed_count = program (main (at_place Int 128 ∷ []) [] (zero 0 ∷ show (bin Int op.ShiftLeft 20 (num 1) (loc Int 0) ∷ []) ∷ []) ∷ [])
+
+-- the lesser of two runes
+abbrev pub lesser_rune : Program
+lesser_rune = program (main [] [] (show (calls Rune b.Min 20 (of_type Rune (pos 97) ∷ of_type Rune (pos 98) ∷ []) ∷ []) ∷ []) ∷ [])
+
+-- a record is built in a variable of another type
+abbrev pub built_elsewhere : Program
+built_elsewhere = program (main (at_place Int 128 ∷ at_place Rec 144 ∷ []) [] (let_ 1 (node Rec 20 (t.build (Some 0) t.no_parts)) ∷ []) ∷ [])
+
+-- a location in a file that isn't there
+abbrev pub located_nowhere : Program
+located_nowhere = program (main (at_place Location 128 ∷ []) [] (let_ 0 (t.expr Location (record { file = record { number = 9 }; line = 4; column = 1 }) t.location) ∷ []) ∷ [])
+
+-- an argument goes to two parameters
+abbrev pub taken_twice : Program
+taken_twice = program (
+    main [] (1 ∷ []) (show (node Int 8 (t.call 0 (1 ∷ 1 ∷ []) (args (num 1 ∷ num 2 ∷ []))) ∷ []) ∷ []) ∷
+    proc Subtracting 2 1 (at_place Int 128 ∷ at_place Int 144 ∷ at_place Int 160 ∷ []) [] (give (loc Int 0 ∷ []) ∷ []) ∷ [])
+
+-- ---- tables
+abbrev pub with_types : List Ty → Program
+with_types more = record empty { tables = record empty.tables { types = types ++ more } }
+  where
+    empty : Program
+    empty = program (main [] [] [] ∷ [])
+
+-- a distinct `int` without a sign
+abbrev pub distinct_of_another : Program
+distinct_of_another = with_types (one 8 Int (whole false) ∷ [])
+
+-- a second pointer to `int`
+abbrev pub pointer_twice : Program
+pointer_twice = with_types (words 1 (length types) (address Int) ∷ [])
+
+-- a distinct pointer to `int`, which may stand beside it
+abbrev pub distinct_pointer : Program
+distinct_pointer = with_types (words 1 Rattle.odc_program.specs.Rows.Writing.IntPointer (address Int) ∷ [])
+
+-- a variable lies where the helper's do
+abbrev pub over_helper : Program
+over_helper = lying (with_helper (helper []) (call_help 7 ∷ []))
+  where
+    lying_in : List Head → List Head
+    lying_in [] = []
+    lying_in (h ∷ hs) = record h { locals = at_place Int 4000 ∷ [] } ∷ hs
+
+    lying : Program → Program
+    lying p = record p { tables = record p.tables { procedures = lying_in p.tables.procedures } }

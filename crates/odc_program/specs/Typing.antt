@@ -1,0 +1,3 @@
+-- The programs that typing gives.
+pub mod WellTypes
+pub mod Well

@@ -1,0 +1,298 @@
+-- Tables of types as a program must have them, and what nodes ask of types.
+use Rattle.std.specs.Prelude.{ℕ, suc, ◌+◌, ◌-◌, ◌*◌, ◌^◌, ◌==◌, ◌&&◌, ◌||◌, not, Bool, true, false, nat_lt, int_le, int_lt, if◌then◌else◌, ℤ, pos, ◌-ℤ◌, List, [], ◌∷◌, length, max, Option, Some, None, slice_get}
+use Rattle.odc_program.specs.declared.ops.Constant.{Constant}
+use Rattle.odc_program.specs.declared.ops.Constant.TheVariants as con
+use Rattle.odc_program.specs.Trees.Program.{Part, Enumerator, Shape, truth, whole, rune, text, raw, address, array, slice, dynamic, soa_array, soa_slice, soa_dynamic, fields, variants, names, procedure, several, Ty}
+use Rattle.odc_program.specs.States.State.{Env, size_of, align_of, shape_of, base_type}
+use Rattle.odc_program.specs.Kinds.Layouts.{parts_in, round_up, storage_size, in_columns}
+use Rattle.odc_program.specs.Kinds.Calling.{types_of}
+
+-- ---- lists
+abbrev pub same_list : List ℕ → List ℕ → Bool
+same_list [] [] = true
+same_list (a ∷ x) (b ∷ y) = (a == b) && same_list x y
+same_list _ _ = false
+
+abbrev pub every : {A : Type 0} → (A → Bool) → List A → Bool
+every f [] = true
+every f (a ∷ x) = f a && every f x
+
+abbrev pub has : ℕ → List ℕ → Bool
+has n [] = false
+has n (a ∷ x) = (n == a) || has n x
+
+abbrev pub once : List ℕ → Bool
+once [] = true
+once (a ∷ x) = not (has a x) && once x
+
+abbrev pub below : ℕ → ℕ → Bool
+below n k = nat_lt k n
+
+abbrev pub is_there : {A : Type 0} → Option A → (A → Bool) → Bool
+is_there None f = false
+is_there (Some a) f = f a
+
+-- ---- kinds of types
+abbrev pub is_whole : Shape → Bool
+is_whole (whole s) = true
+is_whole rune = true
+is_whole _ = false
+
+abbrev pub is_integer : Shape → Bool
+is_integer (whole s) = true
+is_integer _ = false
+
+abbrev pub is_number : Shape → Bool
+is_number (whole s) = true
+is_number rune = true
+is_number (names s es) = true
+is_number _ = false
+
+abbrev pub is_truth : Shape → Bool
+is_truth truth = true
+is_truth _ = false
+
+abbrev pub is_text : Shape → Bool
+is_text text = true
+is_text _ = false
+
+abbrev pub is_raw : Shape → Bool
+is_raw raw = true
+is_raw _ = false
+
+abbrev pub is_pointer : Shape → Bool
+is_pointer raw = true
+is_pointer (address t) = true
+is_pointer _ = false
+
+abbrev pub is_dynamic : Shape → Bool
+is_dynamic (dynamic e) = true
+is_dynamic (soa_dynamic e) = true
+is_dynamic _ = false
+
+abbrev pub is_slice : Shape → Bool
+is_slice (slice e) = true
+is_slice (soa_slice e) = true
+is_slice _ = false
+
+abbrev pub has_nil : Shape → Bool
+has_nil (variants tag ts) = true
+has_nil (procedure odin ps rs) = true
+has_nil s = is_pointer s || (is_dynamic s || is_slice s)
+
+abbrev pub is_printed : Shape → Bool
+is_printed truth = true
+is_printed text = true
+is_printed s = is_number s
+
+abbrev pub is_signed : Shape → Bool
+is_signed (whole s) = s
+is_signed (names s es) = s
+is_signed _ = true
+
+abbrev pub is_int : Env → ℕ → Bool
+is_int env t = is_whole (shape_of env t) && (is_signed (shape_of env t) && (size_of env t == 8))
+
+abbrev pub is_byte : Env → ℕ → Bool
+is_byte env t = is_whole (shape_of env t) && (not (is_signed (shape_of env t)) && (size_of env t == 1))
+
+abbrev pub is_slice_of : ℕ → Shape → Bool
+is_slice_of e (slice f) = e == f
+is_slice_of e _ = false
+
+abbrev pub is_columns_of : ℕ → Shape → Bool
+is_columns_of e (soa_slice f) = e == f
+is_columns_of e _ = false
+
+abbrev pub is_array_of : ℕ → ℕ → Shape → Bool
+is_array_of e n (array f m) = (e == f) && (n == m)
+is_array_of e n _ = false
+
+abbrev pub points_to : ℕ → Shape → Bool
+points_to t (address u) = t == u
+points_to t _ = false
+
+abbrev pub byte_slice_in : Env → Shape → Bool
+byte_slice_in env (slice e) = is_byte env e
+byte_slice_in env _ = false
+
+abbrev pub is_byte_slice : Env → ℕ → Bool
+is_byte_slice env t = byte_slice_in env (shape_of env t)
+
+-- the error of an allocator
+abbrev pub is_error : Env → ℕ → Bool
+is_error env t = is_number (shape_of env t) && (not (is_whole (shape_of env t)) && (size_of env t == 1))
+
+abbrev pub allocator_in : Env → Shape → Bool
+allocator_in env (fields (p ∷ q ∷ [])) = (base_type env p.ty == base_type env env.tables.allocator) && is_pointer (shape_of env q.ty)
+allocator_in env _ = false
+
+abbrev pub is_allocator : Env → ℕ → Bool
+is_allocator env t = allocator_in env (shape_of env t)
+
+abbrev pub offsets : List Part → List ℕ
+offsets [] = []
+offsets (p ∷ ps) = p.offset ∷ offsets ps
+
+-- two allocators, a pointer and an `int`
+abbrev pub is_context : Env → ℕ → Bool
+is_context env t = (size_of env t == 48) && same_list (offsets (parts_in (shape_of env t))) (0 ∷ 16 ∷ 32 ∷ 40 ∷ [])
+
+-- a path, a line, a column and a name
+abbrev pub is_location : Env → ℕ → Bool
+is_location env t = (size_of env t == 40) && same_list (offsets (parts_in (shape_of env t))) (0 ∷ 16 ∷ 20 ∷ 24 ∷ [])
+
+abbrev pub element_in : Shape → Option ℕ
+element_in (array e n) = Some e
+element_in (slice e) = Some e
+element_in (dynamic e) = Some e
+element_in (soa_array e n) = Some e
+element_in (soa_slice e) = Some e
+element_in (soa_dynamic e) = Some e
+element_in _ = None
+
+-- variants count from 1
+abbrev pub variant_in : Shape → ℕ → Option ℕ
+variant_in (variants tag ts) (suc n) = slice_get ts n
+variant_in _ n = None
+
+abbrev pub is_variant : Env → ℕ → ℕ → ℕ → Bool
+is_variant env union_ty n t = is_there (variant_in (shape_of env union_ty) n) (λ u. u == t)
+
+-- the values of an expression: none, one, or several
+abbrev pub values_in : Env → ℕ → List ℕ
+values_in env t = types_of t (shape_of env t)
+
+abbrev pub gives_nothing : Env → ℕ → Bool
+gives_nothing env t = same_list (values_in env t) []
+
+-- ---- constants
+abbrev pub in_range : Bool → ℕ → ℤ → Bool
+in_range true size z = int_le (pos 0 -ℤ pos (2 ^ (8 * size - 1))) z && int_lt z (pos (2 ^ (8 * size - 1)))
+in_range false size z = int_le (pos 0) z && int_lt z (pos (2 ^ (8 * size)))
+
+abbrev pub well_constant : Env → ℕ → Constant → Bool
+well_constant env t (con.Int z) = is_number (shape_of env t) && in_range (is_signed (shape_of env t)) (size_of env t) z
+well_constant env t (con.Bool b) = is_truth (shape_of env t)
+well_constant env t (con.Text n l) = is_text (shape_of env t) && is_there (slice_get env.tables.literals n) (λ x. length x.bytes == l)
+well_constant env t con.Nil = has_nil (shape_of env t)
+
+-- ---- rows of the table: sizes and alignments by their parts
+abbrev pub fields_end : Env → ℕ → List Part → Option ℕ
+fields_end env at [] = Some at
+fields_end env at (p ∷ ps) = if round_up at (align_of env p.ty) == p.offset then fields_end env (p.offset + size_of env p.ty) ps else None
+
+abbrev pub greatest : Env → ℕ → List Part → ℕ
+greatest env n [] = n
+greatest env n (p ∷ ps) = greatest env (max n (align_of env p.ty)) ps
+
+abbrev pub widest : Env → ℕ → List ℕ → ℕ
+widest env n [] = n
+widest env n (t ∷ ts) = widest env (max n (size_of env t)) ts
+
+abbrev pub types_of_parts : List Part → List ℕ
+types_of_parts [] = []
+types_of_parts (p ∷ ps) = p.ty ∷ types_of_parts ps
+
+abbrev pub all_sizes : Env → ℕ → List ℕ → ℕ
+all_sizes env n [] = n
+all_sizes env n (t ∷ ts) = all_sizes env (n + size_of env t) ts
+
+abbrev pub sized : Ty → ℕ → ℕ → Bool
+sized r size align = (r.size == size) && (r.align == align)
+
+abbrev pub is_scalar_size : ℕ → Bool
+is_scalar_size n = has n (1 ∷ 2 ∷ 4 ∷ 8 ∷ [])
+
+abbrev pub known : Env → List ℕ → Bool
+known env ts = every (below (length env.tables.types)) ts
+
+abbrev pub is_struct : Shape → Bool
+is_struct (fields ps) = true
+is_struct _ = false
+
+abbrev pub well_shape : Env → Ty → Shape → Bool
+well_shape env r truth = sized r 1 1
+well_shape env r (whole s) = sized r r.size r.size && is_scalar_size r.size
+well_shape env r rune = sized r 4 4
+well_shape env r text = sized r 16 8
+well_shape env r raw = sized r 8 8
+well_shape env r (address t) = sized r 8 8 && known env (t ∷ [])
+well_shape env r (array e n) = sized r (n * size_of env e) (align_of env e) && known env (e ∷ [])
+well_shape env r (slice e) = sized r 16 8 && known env (e ∷ [])
+well_shape env r (dynamic e) = sized r 40 8 && known env (e ∷ [])
+well_shape env r (soa_array t n) = is_struct (shape_of env t) && sized r (round_up (storage_size n (in_columns env t)) (align_of env t)) (align_of env t)
+well_shape env r (soa_slice t) = is_struct (shape_of env t) && sized r (8 * length (parts_in (shape_of env t)) + 8) 8
+well_shape env r (soa_dynamic t) = is_struct (shape_of env t) && sized r (8 * length (parts_in (shape_of env t)) + 32) 8
+well_shape env r (fields ps) = known env (types_of_parts ps) && is_there (fields_end env 0 ps) (λ n. sized r (round_up n (greatest env 1 ps)) (greatest env 1 ps))
+well_shape env r (variants tag ts) = known env ts && ((tag == round_up (widest env 0 ts) 8) && sized r (tag + 8) 8)
+well_shape env r (names s es) = sized r r.size r.size && is_scalar_size r.size
+well_shape env r (procedure odin ps rs) = sized r 8 8 && (known env ps && known env rs)
+well_shape env r (several ts) = known env ts && (r.size == all_sizes env 0 ts)
+
+-- ---- when two rows have one shape
+abbrev pub same_parts : List Part → List Part → Bool
+same_parts [] [] = true
+same_parts (p ∷ ps) (q ∷ qs) = (p.offset == q.offset) && ((p.ty == q.ty) && same_parts ps qs)
+same_parts _ _ = false
+
+abbrev pub same_names : List Enumerator → List Enumerator → Bool
+same_names [] [] = true
+same_names (a ∷ x) (b ∷ y) = int_le a.value b.value && (int_le b.value a.value && (same_list a.name b.name && same_names x y))
+same_names _ _ = false
+
+abbrev pub same_truth : Bool → Bool → Bool
+same_truth true x = x
+same_truth false x = not x
+
+abbrev pub same_shape : Shape → Shape → Bool
+same_shape truth truth = true
+same_shape (whole s) (whole r) = same_truth s r
+same_shape rune rune = true
+same_shape text text = true
+same_shape raw raw = true
+same_shape (address t) (address u) = t == u
+same_shape (array e n) (array f m) = (e == f) && (n == m)
+same_shape (slice e) (slice f) = e == f
+same_shape (dynamic e) (dynamic f) = e == f
+same_shape (soa_array e n) (soa_array f m) = (e == f) && (n == m)
+same_shape (soa_slice e) (soa_slice f) = e == f
+same_shape (soa_dynamic e) (soa_dynamic f) = e == f
+same_shape (fields ps) (fields qs) = same_parts ps qs
+same_shape (variants tag ts) (variants at us) = (tag == at) && same_list ts us
+same_shape (names s es) (names r fs) = same_truth s r && same_names es fs
+same_shape (procedure odin ps rs) (procedure other qs ss) = same_truth odin other && (same_list ps qs && same_list rs ss)
+same_shape (several ts) (several us) = same_list ts us
+same_shape _ _ = false
+
+-- a distinct type has the size, the alignment and the shape of its base, which is not distinct
+abbrev pub well_base : Env → Ty → Bool
+well_base env r = nat_lt r.base (length env.tables.types) && ((base_type env r.base == r.base) && (sized r (size_of env r.base) (align_of env r.base) && same_shape r.shape (shape_of env r.base)))
+
+-- types that are made of others without a name stand once; of the others there may be several with one shape
+abbrev pub is_made : Shape → Bool
+is_made (address t) = true
+is_made (array e n) = true
+is_made (slice e) = true
+is_made (dynamic e) = true
+is_made (soa_array e n) = true
+is_made (soa_slice e) = true
+is_made (soa_dynamic e) = true
+is_made (procedure odin ps rs) = true
+is_made (several ts) = true
+is_made _ = false
+
+-- a distinct type is its own; `n` is the number of the first row
+abbrev pub differs : Shape → ℕ → List Ty → Bool
+differs s n [] = true
+differs s n (r ∷ rs) = not ((r.base == n) && same_shape s r.shape) && differs s (n + 1) rs
+
+abbrev pub each_from : ℕ → List Ty → Bool
+each_from n [] = true
+each_from n (r ∷ rs) = (not (r.base == n) || (not (is_made r.shape) || differs r.shape (n + 1) rs)) && each_from (n + 1) rs
+
+abbrev pub each_once : List Ty → Bool
+each_once rs = each_from 0 rs
+
+abbrev pub well_row : Env → Ty → Bool
+well_row env r = well_shape env r r.shape && well_base env r
