@@ -1,0 +1,9 @@
+pub mod Runs
+pub mod Sims
+pub mod Values
+pub mod Ties
+pub mod Writes
+pub mod Frame
+pub mod Quiet
+pub mod Evals
+pub mod Tell
