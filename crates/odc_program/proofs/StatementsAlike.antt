@@ -1,6 +1,6 @@
 -- The kinds of statements keep what the primitives keep.
 use Rattle.std.proofs.Common.{ℕ, zero, suc, Bool, true, false, List, [], ◌∷◌, refl}
-use Rattle.std.specs.Prelude.{pos, ◌&&◌, int_le, int_lt, Option, Some, None, if◌then◌else◌, ◌+◌, drop}
+use Rattle.std.specs.Prelude.{pos, ◌&&◌, ◌==◌, int_le, int_lt, Option, Some, None, if◌then◌else◌, ◌+◌, drop}
 use Rattle.odc_text.specs.declared.place.Place.{Place}
 use Rattle.odc_text.specs.declared.check.Check.{Check}
 use Rattle.odc_text.specs.Run.{going}
@@ -238,7 +238,7 @@ module _ (S : s.State → s.State → Type 0) (Stops : s.Leave → s.State → a
 
   ones : (k : ℕ) (ts : List ℕ) → Same (t.one_of k ts) (t.one_of k ts)
   ones k [] = pures false
-  ones k (x ∷ ts) = tried (pures _) (ones k ts)
+  ones k (x ∷ ts) = tried (thens (r.spends 1) (λ _. pures (k == x))) (ones k ts)
 
   pub variant_tests : (env : s.Env) (at : Place) (ty : ℕ) (ts : List ℕ) (v : Option Value) → Same (t.tag_test env at ty ts v) (t.tag_test env at ty ts v)
   variant_tests env at ty ts None = pures false

@@ -165,12 +165,12 @@ module _ (S : s.State → s.State → Type 0) (Stops : s.Leave → s.State → a
 
     rights : (env : s.Env) (v : t.Rights) → Same (x.rights_of y env v) (x.rights_of z env v)
     rights env (t.each es) = many env es
-    rights env (t.parted ts n) = thens (values env n) (λ v. pures (c.taken_parts env ts v))
+    rights env (t.parted ts n) = thens (values env n) (λ v. cl.parts_taken S Stops r env ts v)
     rights env t.nothing = pures []
 
     places : (env : s.Env) (ls : t.Lefts) → Same (x.places_of y env ls) (x.places_of z env ls)
     places env t.no_lefts = pures []
-    places env (t.left_ n ls) = thens (pl.as_spots S Stops r (t.at_of n) (bases env n)) (λ i. thens (places env ls) (λ is. pures (Some i ∷ is)))
+    places env (t.left_ n ls) = thens (pl.as_lefts S Stops r (t.at_of n) (bases env n)) (λ i. thens (places env ls) (λ is. pures (Some i ∷ is)))
     places env (t.dropped ls) = thens (places env ls) (λ is. pures (None ∷ is))
 
     conditions : (env : s.Env) (m : t.Maybe) → Same (x.condition_of y env m) (x.condition_of z env m)
@@ -298,4 +298,4 @@ module _ (S : s.State → s.State → Type 0) (Stops : s.Leave → s.State → a
   }
 
   pub runs : (p : q.Program) (n m : ℕ) → b.Fuels Stops n m → Same (x.main_run p n) (x.main_run p m)
-  runs p n m g = enters (x.calls_of p n) (x.calls_of p m) (calls p n m g) n m g p.tables p.main (slice_get p.tables.procedures p.main) (slice_get p.bodies p.main) [] (Some p.tables.first) x.stack_end
+  runs p n m g = enters (x.calls_of p n) (x.calls_of p m) (calls p n m g) n m g p.tables p.main (slice_get p.tables.procedures p.main) (slice_get p.bodies p.main) [] (Some (s.first_context p.tables)) x.stack_end

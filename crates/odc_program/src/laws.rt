@@ -1,9 +1,9 @@
 //! Closed runs of small programs: what each prints, how it ends, what it costs and how many turns it takes.
 
-ghost use Rattle.std.specs.Prelude.{◌≡◌, ℕ, pos, List, [], ◌∷◌, ◌++◌, map, replicate, true, false, codes};
+ghost use Rattle.std.specs.Prelude.{◌≡◌, ℕ, pos, List, [], ◌∷◌, ◌++◌, map, replicate, true, false, Some, None, codes};
 ghost use Rattle.odc_text.specs.Run.{exited, checked, strayed, going, out, err};
 ghost use Rattle.odc_text.specs.declared.check.Check.TheVariants as check;
-ghost use Rattle.odc_program.specs.Typing.Well.{well};
+ghost use Rattle.odc_program.specs.Typing.Well.{well, has_runtime};
 ghost use Rattle.odc_program.specs.Rows.Told.{told, asked, Prints, Leaves};
 ghost use Rattle.odc_program.specs.States.Bytes.{global, nil, to};
 ghost use Rattle.odc_program.specs.Laws.{StoppedStays, OnlyGrows};
@@ -51,7 +51,7 @@ pub fn defers_before_return()
 
 /// A nil union takes the default case, and an assertion on it stops.
 pub fn nil_union()
-    ensures { Prints first.nil_union (codes "none\n") (checked check.Assertion (at 110)) 29 0 }
+    ensures { Prints first.nil_union (codes "none\n") (checked check.Assertion (at 110)) 31 0 }
 {}
 
 /// A run that has stopped stays as it is at every greater bound.
@@ -96,12 +96,12 @@ pub fn spans()
 
 /// The name of a case of a type switch is what the union holds.
 pub fn variant()
-    ensures { Prints second.variant (codes "5\n") (exited 0) 19 0 }
+    ensures { Prints second.variant (codes "5\n") (exited 0) 23 0 }
 {}
 
 /// A test of a union gives what it holds, or zero.
 pub fn tested()
-    ensures { Prints second.tested (codes "7 true\n false\n") (exited 0) 50 0 }
+    ensures { Prints second.tested (codes "7 true\n false\n") (exited 0) 57 0 }
 {}
 
 /// Results are stored before deferred statements run, and answered behind them.
@@ -356,7 +356,7 @@ pub fn over_slice()
 
 /// A default case may stand before the others.
 pub fn default_first()
-    ensures { Prints second.default_first (codes "9\n") (exited 0) 17 0 }
+    ensures { Prints second.default_first (codes "9\n") (exited 0) 21 0 }
 {}
 
 /// A negative length stops.
@@ -411,7 +411,12 @@ pub fn second_are_well()
 
 /// More of them, with containers in columns and allocators.
 pub fn third_are_well()
-    ensures { map well (third.in_columns ∷ third.loops_in_columns ∷ third.frees ∷ third.makes ∷ third.frees_all ∷ third.over_slice ∷ third.news ∷ third.negative ∷ third.negative_room ∷ third.too_long ∷ third.none_there ∷ third.out_of_memory ∷ third.copies ∷ third.cut_too_far ∷ ill.distinct_pointer ∷ []) ≡ replicate 15 true }
+    ensures { map well (third.in_columns ∷ third.loops_in_columns ∷ third.frees ∷ third.makes ∷ third.frees_all ∷ third.over_slice ∷ third.news ∷ third.negative ∷ third.negative_room ∷ third.too_long ∷ third.none_there ∷ third.out_of_memory ∷ third.copies ∷ third.cut_too_far ∷ ill.distinct_pointer ∷ ill.in_columns_of 16 ∷ []) ≡ replicate 16 true }
+{}
+
+/// And some more: switches that cover an enum, by a span and a default, or a union; results and elements that are assigned.
+pub fn covering_are_well()
+    ensures { map well (ill.over_errors 4 tree.no_cases ∷ ill.over_errors 1 (tree.default_case tree.finish tree.no_cases) ∷ ill.over_variants (tree.type_case (2 ∷ []) None tree.finish tree.no_types) ∷ ill.over_variants (tree.default_type None tree.finish tree.no_types) ∷ ill.result_assigned ∷ ill.turn_assigned true ∷ []) ≡ replicate 6 true }
 {}
 
 /// Programs that aren't well: a call through another type, labels and variables that aren't there, variables that lie
@@ -425,4 +430,20 @@ pub fn are_not_well()
 /// types that stand twice or differ from their base, and a variable where a helper's lie.
 pub fn neither_are_these()
     ensures { map well (ill.falls_out ∷ ill.returns_late ∷ ill.breaks_late ∷ ill.counts_itself ∷ ill.helper_allocates ∷ third.without_context ∷ ill.compares_slices ∷ ill.signed_count ∷ ill.lesser_rune ∷ ill.built_elsewhere ∷ ill.located_nowhere ∷ ill.distinct_of_another ∷ ill.pointer_twice ∷ ill.over_helper ∷ ill.taken_twice ∷ []) ≡ replicate 15 false }
+{}
+
+/// And more: types without a name or with another's, columns of too many fields, a label twice, a variable before and
+/// behind its scope, switches that don't cover their subject, and parameters and names of loops that are assigned.
+pub fn nor_these()
+    ensures { map well (ill.unnamed ∷ ill.named_integer ∷ ill.one_name ∷ ill.in_columns_of 17 ∷ ill.one_label ∷ ill.too_early ∷ ill.too_late ∷ ill.over_errors 3 tree.no_cases ∷ ill.over_variants tree.no_types ∷ ill.parameter_assigned ∷ ill.parameter_addressed ∷ ill.turn_assigned false ∷ []) ≡ replicate 12 false }
+{}
+
+/// A procedure that stands twice, a location whose literal is another, and a statement in a file without a path.
+pub fn nor_those()
+    ensures { map well (ill.instance_twice ∷ ill.other_path ∷ ill.stands_nowhere ∷ []) ≡ replicate 3 false }
+{}
+
+/// Whether the two allocator procedures of the runtime library are there.
+pub fn runtime()
+    ensures { map has_runtime (ill.with_runtime (Some 2) ∷ ill.with_runtime None ∷ ill.with_runtime (Some 0) ∷ ill.with_runtime (Some 3) ∷ []) ≡ true ∷ replicate 3 false }
 {}

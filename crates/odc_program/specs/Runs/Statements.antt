@@ -220,7 +220,7 @@ span_holds env at t closed m n (Some v) = m >>= (λ a. n >>= (λ b. in_span env 
 -- a type switch: the variants of a case, and its body from the union's value
 abbrev pub one_of : ℕ → List ℕ → Do Bool
 one_of k [] = pure false
-one_of k (t ∷ ts) = tried (pure (k == t)) (one_of k ts)
+one_of k (t ∷ ts) = tried (spend 1 >>> pure (k == t)) (one_of k ts)
 
 abbrev pub tag_test : Env → Place → ℕ → List ℕ → Test
 tag_test env at t variants None = pure false

@@ -2,7 +2,11 @@
 use Rattle.std.specs.Prelude.{ℕ, suc, ◌+◌, ◌-◌, ◌*◌, ◌^◌, ◌==◌, ◌&&◌, ◌||◌, not, Bool, true, false, nat_lt, int_le, int_lt, if◌then◌else◌, ℤ, pos, ◌-ℤ◌, List, [], ◌∷◌, length, max, Option, Some, None, slice_get}
 use Rattle.odc_program.specs.declared.ops.Constant.{Constant}
 use Rattle.odc_program.specs.declared.ops.Constant.TheVariants as con
-use Rattle.odc_program.specs.Trees.Program.{Part, Enumerator, Shape, truth, whole, rune, text, raw, address, array, slice, dynamic, soa_array, soa_slice, soa_dynamic, fields, variants, names, procedure, several, Ty}
+use Rattle.odc_text.specs.declared.place.Place.{Place}
+use Rattle.odc_types.specs.declared.width.Width.{Width}
+use Rattle.odc_types.specs.declared.width.Width.TheVariants as width
+use Rattle.odc_types.specs.Widths as widths
+use Rattle.odc_program.specs.Trees.Program.{Part, Enumerator, Shape, truth, whole, rune, text, raw, address, array, slice, dynamic, soa_array, soa_slice, soa_dynamic, fields, variants, names, procedure, several, Name, Ty}
 use Rattle.odc_program.specs.States.State.{Env, size_of, align_of, shape_of, base_type}
 use Rattle.odc_program.specs.Kinds.Layouts.{parts_in, round_up, storage_size, in_columns}
 use Rattle.odc_program.specs.Kinds.Calling.{types_of}
@@ -34,18 +38,18 @@ is_there (Some a) f = f a
 
 -- ---- kinds of types
 abbrev pub is_whole : Shape → Bool
-is_whole (whole s) = true
+is_whole (whole w) = true
 is_whole rune = true
 is_whole _ = false
 
 abbrev pub is_integer : Shape → Bool
-is_integer (whole s) = true
+is_integer (whole w) = true
 is_integer _ = false
 
 abbrev pub is_number : Shape → Bool
-is_number (whole s) = true
+is_number (whole w) = true
 is_number rune = true
-is_number (names s es) = true
+is_number (names w es) = true
 is_number _ = false
 
 abbrev pub is_truth : Shape → Bool
@@ -86,8 +90,8 @@ is_printed text = true
 is_printed s = is_number s
 
 abbrev pub is_signed : Shape → Bool
-is_signed (whole s) = s
-is_signed (names s es) = s
+is_signed (whole w) = widths.is_signed w
+is_signed (names w es) = widths.is_signed w
 is_signed _ = true
 
 abbrev pub is_int : Env → ℕ → Bool
@@ -201,19 +205,17 @@ all_sizes env n (t ∷ ts) = all_sizes env (n + size_of env t) ts
 abbrev pub sized : Ty → ℕ → ℕ → Bool
 sized r size align = (r.size == size) && (r.align == align)
 
-abbrev pub is_scalar_size : ℕ → Bool
-is_scalar_size n = has n (1 ∷ 2 ∷ 4 ∷ 8 ∷ [])
-
 abbrev pub known : Env → List ℕ → Bool
 known env ts = every (below (length env.tables.types)) ts
 
-abbrev pub is_struct : Shape → Bool
-is_struct (fields ps) = true
-is_struct _ = false
+-- what a `#soa` container may be over: a struct of 1 to 16 fields
+abbrev pub is_record : Shape → Bool
+is_record (fields ps) = nat_lt 0 (length ps) && nat_lt (length ps) 17
+is_record _ = false
 
 abbrev pub well_shape : Env → Ty → Shape → Bool
 well_shape env r truth = sized r 1 1
-well_shape env r (whole s) = sized r r.size r.size && is_scalar_size r.size
+well_shape env r (whole w) = sized r (widths.bytes_of w) (widths.bytes_of w)
 well_shape env r rune = sized r 4 4
 well_shape env r text = sized r 16 8
 well_shape env r raw = sized r 8 8
@@ -221,12 +223,12 @@ well_shape env r (address t) = sized r 8 8 && known env (t ∷ [])
 well_shape env r (array e n) = sized r (n * size_of env e) (align_of env e) && known env (e ∷ [])
 well_shape env r (slice e) = sized r 16 8 && known env (e ∷ [])
 well_shape env r (dynamic e) = sized r 40 8 && known env (e ∷ [])
-well_shape env r (soa_array t n) = is_struct (shape_of env t) && sized r (round_up (storage_size n (in_columns env t)) (align_of env t)) (align_of env t)
-well_shape env r (soa_slice t) = is_struct (shape_of env t) && sized r (8 * length (parts_in (shape_of env t)) + 8) 8
-well_shape env r (soa_dynamic t) = is_struct (shape_of env t) && sized r (8 * length (parts_in (shape_of env t)) + 32) 8
+well_shape env r (soa_array t n) = is_record (shape_of env t) && sized r (round_up (storage_size n (in_columns env t)) (align_of env t)) (align_of env t)
+well_shape env r (soa_slice t) = is_record (shape_of env t) && sized r (8 * length (parts_in (shape_of env t)) + 8) 8
+well_shape env r (soa_dynamic t) = is_record (shape_of env t) && sized r (8 * length (parts_in (shape_of env t)) + 32) 8
 well_shape env r (fields ps) = known env (types_of_parts ps) && is_there (fields_end env 0 ps) (λ n. sized r (round_up n (greatest env 1 ps)) (greatest env 1 ps))
 well_shape env r (variants tag ts) = known env ts && ((tag == round_up (widest env 0 ts) 8) && sized r (tag + 8) 8)
-well_shape env r (names s es) = sized r r.size r.size && is_scalar_size r.size
+well_shape env r (names w es) = sized r (widths.bytes_of w) (widths.bytes_of w)
 well_shape env r (procedure odin ps rs) = sized r 8 8 && (known env ps && known env rs)
 well_shape env r (several ts) = known env ts && (r.size == all_sizes env 0 ts)
 
@@ -245,9 +247,25 @@ abbrev pub same_truth : Bool → Bool → Bool
 same_truth true x = x
 same_truth false x = not x
 
+-- `int` and `uint` are other types than `i64` and `u64`
+abbrev pub number_of : Width → ℕ
+number_of width.Int = 0
+number_of width.Uint = 1
+number_of width.I8 = 2
+number_of width.I16 = 3
+number_of width.I32 = 4
+number_of width.I64 = 5
+number_of width.U8 = 6
+number_of width.U16 = 7
+number_of width.U32 = 8
+number_of width.U64 = 9
+
+abbrev pub same_width : Width → Width → Bool
+same_width v w = number_of v == number_of w
+
 abbrev pub same_shape : Shape → Shape → Bool
 same_shape truth truth = true
-same_shape (whole s) (whole r) = same_truth s r
+same_shape (whole v) (whole w) = same_width v w
 same_shape rune rune = true
 same_shape text text = true
 same_shape raw raw = true
@@ -260,7 +278,7 @@ same_shape (soa_slice e) (soa_slice f) = e == f
 same_shape (soa_dynamic e) (soa_dynamic f) = e == f
 same_shape (fields ps) (fields qs) = same_parts ps qs
 same_shape (variants tag ts) (variants at us) = (tag == at) && same_list ts us
-same_shape (names s es) (names r fs) = same_truth s r && same_names es fs
+same_shape (names v es) (names w fs) = same_width v w && same_names es fs
 same_shape (procedure odin ps rs) (procedure other qs ss) = same_truth odin other && (same_list ps qs && same_list rs ss)
 same_shape (several ts) (several us) = same_list ts us
 same_shape _ _ = false
@@ -269,30 +287,46 @@ same_shape _ _ = false
 abbrev pub well_base : Env → Ty → Bool
 well_base env r = nat_lt r.base (length env.tables.types) && ((base_type env r.base == r.base) && (sized r (size_of env r.base) (align_of env r.base) && same_shape r.shape (shape_of env r.base)))
 
--- types that are made of others without a name stand once; of the others there may be several with one shape
-abbrev pub is_made : Shape → Bool
-is_made (address t) = true
-is_made (array e n) = true
-is_made (slice e) = true
-is_made (dynamic e) = true
-is_made (soa_array e n) = true
-is_made (soa_slice e) = true
-is_made (soa_dynamic e) = true
-is_made (procedure odin ps rs) = true
-is_made (several ts) = true
-is_made _ = false
+-- ---- what tells types from each other: a struct, union, enum or distinct type its name, and every other its shape
+abbrev pub has_name : Shape → Bool
+has_name (fields ps) = true
+has_name (variants tag ts) = true
+has_name (names w es) = true
+has_name _ = false
 
--- a distinct type is its own; `n` is the number of the first row
-abbrev pub differs : Shape → ℕ → List Ty → Bool
-differs s n [] = true
-differs s n (r ∷ rs) = not ((r.base == n) && same_shape s r.shape) && differs s (n + 1) rs
+abbrev pub same_place : Place → Place → Bool
+same_place a b = (a.file.number == b.file.number) && ((a.line == b.line) && (a.column == b.column))
 
-abbrev pub each_from : ℕ → List Ty → Bool
-each_from n [] = true
-each_from n (r ∷ rs) = (not (r.base == n) || (not (is_made r.shape) || differs r.shape (n + 1) rs)) && each_from (n + 1) rs
+abbrev pub same_ints : List ℤ → List ℤ → Bool
+same_ints [] [] = true
+same_ints (a ∷ x) (b ∷ y) = int_le a b && (int_le b a && same_ints x y)
+same_ints _ _ = false
+
+abbrev pub same_name : Name → Name → Bool
+same_name a b = same_place a.at b.at && (same_list a.types b.types && same_ints a.numbers b.numbers)
+
+abbrev pub same_by : Option Name → Option Name → Bool → Bool
+same_by (Some a) (Some b) shapes = same_name a b
+same_by None None shapes = shapes
+same_by _ _ shapes = false
+
+-- whether two rows are of one type
+abbrev pub same_type : Ty → Ty → Bool
+same_type r q = same_by r.name q.name (same_shape r.shape q.shape)
 
 abbrev pub each_once : List Ty → Bool
-each_once rs = each_from 0 rs
+each_once [] = true
+each_once (r ∷ rs) = every (λ q. not (same_type r q)) rs && each_once rs
 
-abbrev pub well_row : Env → Ty → Bool
-well_row env r = well_shape env r r.shape && well_base env r
+-- the instance around a type is of types of the table, and its place in a file that is there
+abbrev pub well_name : Env → Bool → Option Name → Bool
+well_name env wanted None = not wanted
+well_name env wanted (Some n) = wanted && (known env n.types && nat_lt n.at.file.number (length env.tables.paths))
+
+abbrev pub well_row : Env → ℕ → Ty → Bool
+well_row env n r = well_shape env r r.shape && (well_base env r && well_name env (has_name r.shape || not (r.base == n)) r.name)
+
+-- the rows from a number on
+abbrev pub well_rows : Env → ℕ → List Ty → Bool
+well_rows env n [] = true
+well_rows env n (r ∷ rs) = well_row env n r && well_rows env (n + 1) rs
