@@ -4,6 +4,7 @@ ghost use Rattle.std.specs.Prelude.{◌≡◌, ℕ, pos, List, [], ◌∷◌, �
 ghost use Rattle.odc_text.specs.Run.{exited, checked, strayed, going, out, err};
 ghost use Rattle.odc_text.specs.declared.check.Check.TheVariants as check;
 ghost use Rattle.odc_program.specs.Typing.Well.{well, has_runtime};
+ghost use Rattle.odc_program.specs.Typing.Frames.{framed};
 ghost use Rattle.odc_program.specs.Rows.Told.{told, asked, Prints, Leaves};
 ghost use Rattle.odc_program.specs.States.Bytes.{global, nil, to};
 ghost use Rattle.odc_program.specs.Laws.{StoppedStays, OnlyGrows};
@@ -12,6 +13,10 @@ ghost use Rattle.odc_program.specs.Trees.Tree as tree;
 ghost use Rattle.odc_program.specs.Rows.First as first;
 ghost use Rattle.odc_program.specs.Rows.Second as second;
 ghost use Rattle.odc_program.specs.Rows.Third as third;
+ghost use Rattle.odc_program.specs.Rows.Columns as columns;
+ghost use Rattle.odc_program.specs.Rows.Asking as asking;
+ghost use Rattle.odc_program.specs.Rows.Orders as orders;
+ghost use Rattle.odc_program.specs.Rows.Framed.{frames, nodes, with_frames};
 ghost use Rattle.odc_program.specs.Rows.Ill as ill;
 
 /// An `i8` wraps.
@@ -316,7 +321,7 @@ pub fn soa_appends()
 
 /// Its growth asks for new storage, copies the columns, and gives the old one back.
 pub fn soa_grows()
-    ensures { Leaves third.soa_grows (asked 1 (pos 0) (pos 216) (pos 8) nil (pos 0) ∷ asked 1 (pos 1) (pos 0) (pos 0) (to (global 1342177280 0) 0) (pos 72) ∷ map out (codes "9 0 9 24\n")) (exited 0) 173 2 }
+    ensures { Leaves third.soa_grows (asked 1 (pos 0) (pos 216) (pos 8) nil (pos 0) ∷ asked 1 (pos 1) (pos 0) (pos 0) (to (global 1342177280 0) 0) (pos 72) ∷ map out (codes "9 11 18 1 8 9 24\n")) (exited 0) 208 2 }
 {}
 
 /// `new` asks the allocator of the context.
@@ -399,6 +404,116 @@ pub fn cut_too_far()
     ensures { Prints third.cut_too_far [] (checked check.Slice (at 30)) 5 0 }
 {}
 
+/// An element is removed from each column.
+pub fn columns_close_up()
+    ensures { Prints columns.removes (codes "2 30 2\n") (exited 0) 75 0 }
+{}
+
+/// The last element of each column moves into the place.
+pub fn columns_move_last()
+    ensures { Prints columns.removes_unordered (codes "3 20 2\n") (exited 0) 73 0 }
+{}
+
+/// The last record is taken out of its columns.
+pub fn columns_pop()
+    ensures { Prints columns.pops (codes "30 2\n") (exited 0) 55 0 }
+{}
+
+/// A slice of a container in columns has an address for each of them.
+pub fn columns_cut()
+    ensures { Prints columns.cuts (codes "20 2\n") (exited 0) 59 0 }
+{}
+
+/// A copy between such slices moves each column as if through a copy.
+pub fn columns_copied()
+    ensures { Prints columns.copies (codes "2\n2 30\n") (exited 0) 80 0 }
+{}
+
+/// The columns of an assigned element are found with its place, and a run strays there where one isn't there.
+pub fn place_not_found()
+    ensures { Prints columns.place_not_found [] (strayed (at 60)) 40 0 }
+{}
+
+/// A growth by `resize` asks the kept allocator, and zeroes the elements for which there was room.
+pub fn resizes_beyond()
+    ensures { Leaves asking.resizes (asked 1 (pos 3) (pos 40) (pos 8) (to (global 1342177280 0) 0) (pos 24) ∷ map out (codes "5 5 0 72340172838076673\n")) (exited 0) 115 1 }
+{}
+
+/// Fewer bytes than asked are want of memory.
+pub fn answers_less()
+    ensures { Leaves asking.answers_less (asked 1 (pos 0) (pos 8) (pos 8) nil (pos 0) ∷ map out (codes "Out_Of_Memory\n")) (exited 0) 52 1 }
+{}
+
+/// An allocator call takes its turn, stands in the log, and then meets the stack check.
+pub fn no_stack()
+    ensures { Leaves asking.no_stack (asked 1 (pos 2) (pos 0) (pos 0) nil (pos 0) ∷ []) (checked check.Stack (at 9)) 3 1 }
+{}
+
+/// Without a turn it doesn't stand in the log.
+pub fn no_turn()
+    ensures { told asking.no_stack [] 0 ≡ record { end = going; log = []; taken = 0; cost = 2; turns = 0 } }
+{}
+
+/// A marked call through a value stands in the log.
+pub fn marked()
+    ensures { Leaves asking.marked (asked 1 (pos 0) (pos 16) (pos 8) nil (pos 0) ∷ map out (codes "16 None\n")) (exited 0) 58 1 }
+{}
+
+/// The regions are bytes that begin as zeros.
+pub fn regions()
+    ensures { Prints asking.regions (codes "7 0 16777216\n1048576\n") (exited 0) 55 0 }
+{}
+
+/// A slice of raw memory lies where its address says.
+pub fn slices_raw()
+    ensures { Prints asking.slices_raw (codes "9 3\n") (exited 0) 31 0 }
+{}
+
+/// `os.read` needs all of its room, and takes no input where that isn't there.
+pub fn reads_outside()
+    ensures { told asking.reads_outside (97 ∷ 98 ∷ []) 100 ≡ record { end = strayed (at 20); log = []; taken = 0; cost = 15; turns = 0 } }
+{}
+
+/// A callee that stops does so before its arguments are evaluated.
+pub fn callee_first()
+    ensures { Prints orders.callee_first [] (checked check.Nil (at 60)) 7 0 }
+{}
+
+/// An assignment with an operator finds its place once.
+pub fn finds_once()
+    ensures { Prints orders.finds_once (codes "4\n5\n") (exited 0) 30 1 }
+{}
+
+/// And reads it before its right side is evaluated.
+pub fn reads_first()
+    ensures { Prints orders.reads_first (codes "5\n") (exited 0) 21 1 }
+{}
+
+/// The ends of a range are read once.
+pub fn ends_once()
+    ensures { Prints orders.ends_once (codes "0\n1\n") (exited 0) 31 2 }
+{}
+
+/// A part of several becomes a variant where it is stored in a union.
+pub fn becomes_variant()
+    ensures { Prints orders.becomes_variant (codes "7\n") (exited 0) 41 0 }
+{}
+
+/// The nodes of procedures: expressions, statements and variables.
+pub fn nodes_counted()
+    ensures { nodes first.wraps ++ nodes third.pops ≡ 9 ∷ 18 ∷ [] }
+{}
+
+/// The sizes of frames, as the trees of procedures give them.
+pub fn frames_sized()
+    ensures { frames first.wraps ++ frames first.past_the_end ++ frames first.nil_union ++ frames second.tested ++ frames third.pops ++ frames second.named ≡ 1472 ∷ 2016 ∷ 2528 ∷ 3456 ∷ 2816 ∷ 944 ∷ 1232 ∷ 1072 ∷ 1072 ∷ [] }
+{}
+
+/// Programs whose frames are those of their trees, or aren't.
+pub fn frames_tested()
+    ensures { map framed (with_frames (1472 ∷ []) first.wraps ∷ with_frames (944 ∷ 1232 ∷ 1072 ∷ 1072 ∷ []) second.named ∷ with_frames (1488 ∷ []) first.wraps ∷ with_frames (528 ∷ []) ill.too_near ∷ []) ≡ true ∷ true ∷ false ∷ false ∷ [] }
+{}
+
 /// Small programs that are well.
 pub fn first_are_well()
     ensures { map well (first.wraps ∷ first.divides ∷ first.past_the_end ∷ first.late_check ∷ first.restored ∷ first.defers_in_loop (tree.break_ 7) ∷ first.nil_union ∷ []) ≡ replicate 7 true }
@@ -412,6 +527,11 @@ pub fn second_are_well()
 /// More of them, with containers in columns and allocators.
 pub fn third_are_well()
     ensures { map well (third.in_columns ∷ third.loops_in_columns ∷ third.frees ∷ third.makes ∷ third.frees_all ∷ third.over_slice ∷ third.news ∷ third.negative ∷ third.negative_room ∷ third.too_long ∷ third.none_there ∷ third.out_of_memory ∷ third.copies ∷ third.cut_too_far ∷ ill.distinct_pointer ∷ ill.in_columns_of 16 ∷ []) ≡ replicate 16 true }
+{}
+
+/// And these: with regions and raw memory, orders of evaluation, and marked calls.
+pub fn others_are_well()
+    ensures { map well (asking.answers_less ∷ asking.marked ∷ asking.regions ∷ asking.slices_raw ∷ asking.reads_outside ∷ orders.callee_first ∷ orders.finds_once ∷ orders.reads_first ∷ orders.ends_once ∷ orders.becomes_variant ∷ []) ≡ replicate 10 true }
 {}
 
 /// And some more: switches that cover an enum, by a span and a default, or a union; results and elements that are assigned.

@@ -6,7 +6,7 @@ use Rattle.odc_program.specs.declared.ops.Builtin.TheVariants as b
 use Rattle.odc_program.specs.Trees.Tree as t
 use Rattle.odc_program.specs.Trees.Program.{Part, Program, Ty, Head, whole, address, soa_slice, fields}
 use Rattle.odc_program.specs.Rows.Second.{with_helper, helper, call_help}
-use Rattle.odc_program.specs.Rows.Writing.{with_name, row, field_at, IntPointer, IntProc, Three, Either, address_of, refuser, with_all, Subtracting, args, Error, Int, Text, Byte_, Nothing, Plain, Teller, num, of_type, bool, str, loc, elem, call, do_, give, let_, set, show, at_place, proc, main, program, saying, Bool_, Rune, U64, IntSlice, Rec, Location, types, at, node, calls, bin, st, block_of, zero, one, words}
+use Rattle.odc_program.specs.Rows.Writing.{with_name, entry, field_at, IntPointer, IntProc, Three, Either, address_of, refuser, with_all, Subtracting, args, Error, Int, Text, Byte_, Nothing, Plain, Teller, num, of_type, bool, str, loc, elem, call, do_, give, let_, set, show, at_place, proc, main, program, saying, Bool_, Rune, U64, IntSlice, Rec, Location, types, at, node, calls, bin, st, block_of, zero, one, words}
 
 -- two variables with no eight bytes between them
 abbrev pub too_near : Program
@@ -129,7 +129,7 @@ bytes_from at ℕ.zero = []
 bytes_from at (suc n) = field_at at Byte_ ∷ bytes_from (at + 1) n
 
 abbrev pub in_columns_of : ℕ → Program
-in_columns_of n = with_types (with_name 90 (row n 1 (length types) (fields (bytes_from 0 n))) ∷ words (n + 1) (length types + 1) (soa_slice (length types)) ∷ [])
+in_columns_of n = with_types (with_name 90 (entry n 1 (length types) (fields (bytes_from 0 n))) ∷ words (n + 1) (length types + 1) (soa_slice (length types)) ∷ [])
 
 -- a variable lies where the helper's do
 abbrev pub over_helper : Program

@@ -1,9 +1,10 @@
 -- Small programs: containers in columns, built-in procedures on dynamic arrays, and allocators.
-use Rattle.std.specs.Prelude.{ℕ, ◌++◌, pos, negsuc, true, false, List, [], ◌∷◌, Some, None, codes}
+use Rattle.std.specs.Prelude.{ℕ, ◌++◌, ℤ, pos, negsuc, true, false, List, [], ◌∷◌, Some, None, codes}
 use Rattle.odc_program.specs.declared.ops.Builtin.TheVariants as b
+use Rattle.odc_program.specs.States.Bytes.{Value, numbers, zeros, int_bytes}
 use Rattle.odc_program.specs.Trees.Tree as t
-use Rattle.odc_program.specs.Trees.Program.{Program}
-use Rattle.odc_program.specs.Rows.Writing.{taken, Failing, Contextless, Int, IntPointer, ContextType, IntArray, Byte_, ByteSlice_, Buffer, Allocator, IntError, Error, Three, I64, Raw, Rec, SoaThree, SoaArray, AllocatorProc, IntSlice, Nothing, ToIntArray, ToSoaArray, IntColumn, SliceError, num, of_type, str, nil_of, loc, glob, node, args, calls, field, elem, rec_of, st, block_of, show, let_, zero, set, call, do_, give, at_place, Proc, proc, main, program, with_all, three, buffer, address_of, allocator_of, refuser, lit}
+use Rattle.odc_program.specs.Trees.Program.{Global, Program}
+use Rattle.odc_program.specs.Rows.Writing.{glob_of, taken, Failing, Contextless, Int, IntPointer, ContextType, IntArray, Byte_, ByteSlice_, Buffer, Allocator, IntError, Error, Three, I64, Raw, Rec, SoaThree, SoaArray, AllocatorProc, IntSlice, Nothing, ToIntArray, ToSoaArray, IntColumn, SliceError, num, of_type, str, nil_of, loc, glob, node, args, calls, field, elem, rec_of, st, block_of, show, let_, zero, set, call, do_, give, at_place, Proc, proc, main, program, with_all, three, buffer, address_of, allocator_of, refuser, lit}
 
 -- ---- columns
 -- two elements stored, two swapped, columns and fields read: 5, twice 15, 29 and 26
@@ -139,12 +140,23 @@ soa_appends = with_all (buffer ∷ []) [] None (
     (let_ 0 (node SoaArray 20 (t.build None (kept 32))) ∷ append_rec ∷ show (b_of 0 ∷ soa_len ∷ soa_cap ∷ []) ∷ []) ∷
     allocator_of 0 ∷ [])
 
--- one to a full array of eight asks for 24, copies both columns and gives the old storage back: 28, 103 and 42
+-- a storage of eight records: `u8` from 1 on in the first column, `i64` from 11 on in the second
+abbrev pub longs : List ℤ → Value
+longs [] = []
+longs (z ∷ zs) = int_bytes 8 z ++ longs zs
+
+abbrev pub eight : Global
+eight = glob_of Buffer (numbers (1 ∷ 2 ∷ 3 ∷ 4 ∷ 5 ∷ 6 ∷ 7 ∷ 8 ∷ []) ++ longs (pos 11 ∷ pos 12 ∷ pos 13 ∷ pos 14 ∷ pos 15 ∷ pos 16 ∷ pos 17 ∷ pos 18 ∷ []) ++ zeros 184)
+
+abbrev pub a_of : ℕ → t.Expr
+a_of n = field Byte_ (elem Rec 60 d (num n)) 0
+
+-- one to a full array of eight asks for 24, copies both columns and gives the old storage back: 28, 103 and 77
 abbrev pub soa_grows : Program
-soa_grows = with_all (buffer ∷ buffer ∷ []) [] None (
+soa_grows = with_all (eight ∷ buffer ∷ []) [] None (
     main (at_place SoaArray 128 ∷ []) (1 ∷ [])
     (let_ 0 (node SoaArray 20 (t.build None (t.part 0 (address_of IntPointer (glob Buffer 0)) (t.part 8 (address_of IntPointer (elem Byte_ 23 (glob Buffer 0) (num 8))) (t.part 16 (num 8) (t.part 24 (num 8) (kept 32))))))) ∷
-    append_rec ∷ show (b_of 8 ∷ b_of 0 ∷ soa_len ∷ soa_cap ∷ []) ∷ []) ∷
+    append_rec ∷ show (b_of 8 ∷ b_of 0 ∷ b_of 7 ∷ a_of 0 ∷ a_of 7 ∷ soa_len ∷ soa_cap ∷ []) ∷ []) ∷
     allocator_of 1 ∷ [])
 
 -- ---- the context's allocator

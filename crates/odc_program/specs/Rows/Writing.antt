@@ -16,14 +16,14 @@ abbrev pub at : ℕ → Place
 at n = record { file = record { number = 0 }; line = 4; column = n }
 
 -- ---- the types that the programs use
-abbrev pub row : ℕ → ℕ → ℕ → Shape → Ty
-row size align base shape = record { size = size; align = align; base = base; name = None; shape = shape }
+abbrev pub entry : ℕ → ℕ → ℕ → Shape → Ty
+entry size align base shape = record { size = size; align = align; base = base; name = None; shape = shape }
 
 abbrev pub one : ℕ → ℕ → Shape → Ty
-one size base shape = row size size base shape
+one size base shape = entry size size base shape
 
 abbrev pub words : ℕ → ℕ → Shape → Ty
-words n base shape = row (8 * n) 8 base shape
+words n base shape = entry (8 * n) 8 base shape
 
 -- a row whose type has a name, in column n of the file's second line
 abbrev pub name_at : ℕ → Name
@@ -211,6 +211,10 @@ BoolsPointer = 51
 abbrev pub Subtracting : ℕ
 Subtracting = 52
 
+-- a pointer to a procedure value
+abbrev pub ToIntProc : ℕ
+ToIntProc = 53
+
 abbrev pub types : List Ty
 types =
     one 8 Int (whole width.Int) ∷
@@ -223,11 +227,11 @@ types =
     words 5 IntArray (dynamic Int) ∷
     words 2 ByteSlice_ (slice Byte_) ∷
     one 1 Byte_ (whole width.U8) ∷
-    row 17 8 Answered (several (ByteSlice_ ∷ Error ∷ [])) ∷
-    row 256 1 Buffer (array Byte_ 256) ∷
+    entry 17 8 Answered (several (ByteSlice_ ∷ Error ∷ [])) ∷
+    entry 256 1 Buffer (array Byte_ 256) ∷
     with_name Location (words 5 Location (fields (field_at 0 Text ∷ field_at 16 I32 ∷ field_at 20 I32 ∷ field_at 24 Text ∷ []))) ∷
     with_name Allocator (words 2 Allocator (fields (field_at 0 AllocatorProc ∷ field_at 8 Raw ∷ []))) ∷
-    row 9 8 IntError (several (Int ∷ Error ∷ [])) ∷
+    entry 9 8 IntError (several (Int ∷ Error ∷ [])) ∷
     with_name Error (one 1 Error (names width.U8 (named 0 (codes "None") ∷ named 1 (codes "Out_Of_Memory") ∷ named 2 (codes "Invalid_Pointer") ∷ named 3 (codes "Invalid_Argument") ∷ named 4 (codes "Mode_Not_Implemented") ∷ []))) ∷
     words 3 Three (array Int 3) ∷
     one 1 I8 (whole width.I8) ∷
@@ -247,13 +251,13 @@ types =
     words 2 FileAnswer (several (Int ∷ FileError ∷ [])) ∷
     with_name FileError (one 8 FileError (names width.Int (named 0 (codes "None") ∷ named 1 (codes "Invalid_File") ∷ []))) ∷
     words 3 IntColumn (array I64 3) ∷
-    row 17 8 SliceError (several (IntSlice ∷ Error ∷ [])) ∷
-    row 9 8 IntBool (several (Int ∷ Bool_ ∷ [])) ∷
+    entry 17 8 SliceError (several (IntSlice ∷ Error ∷ [])) ∷
+    entry 9 8 IntBool (several (Int ∷ Bool_ ∷ [])) ∷
     with_name Own (one 8 Int (whole width.Int)) ∷
-    row 9 8 PointerError (several (IntPointer ∷ Error ∷ [])) ∷
+    entry 9 8 PointerError (several (IntPointer ∷ Error ∷ [])) ∷
     words 9 EitherArray (array Either 3) ∷
     words 1 IntProc (procedure true (Int ∷ []) (Int ∷ [])) ∷
-    row 17 8 TextBool (several (Text ∷ Bool_ ∷ [])) ∷
+    entry 17 8 TextBool (several (Text ∷ Bool_ ∷ [])) ∷
     one 4 I32 (whole width.I32) ∷
     words 1 Teller (procedure true [] (Int ∷ [])) ∷
     words 1 Failing (procedure true [] (Error ∷ [])) ∷
@@ -266,6 +270,7 @@ types =
     one 1 Bools (array Bool_ 1) ∷
     words 1 BoolsPointer (address Bools) ∷
     words 1 Subtracting (procedure true (Int ∷ Int ∷ []) (Int ∷ [])) ∷
+    words 1 ToIntProc (address IntProc) ∷
     []
 
 -- ---- nodes; a constant and a name stand in column 1, others where they say
@@ -433,6 +438,11 @@ allocator_locals = at_place Raw 128 ∷ at_place Byte_ 144 ∷ at_place Int 160 
 abbrev pub allocator_of : ℕ → Proc
 allocator_of g = proc AllocatorProc 7 2 allocator_locals []
     (give (node ByteSlice_ 40 (t.cut (glob Buffer g) (t.present (num 0)) (t.present (loc Int 2))) ∷ of_type Error (pos 0) ∷ []) ∷ [])
+
+-- one that answers a byte less than it is asked for: a call costs 28
+abbrev pub short_of : ℕ → Proc
+short_of g = proc AllocatorProc 7 2 allocator_locals []
+    (give (node ByteSlice_ 40 (t.cut (glob Buffer g) (t.present (num 1)) (t.present (loc Int 2))) ∷ of_type Error (pos 0) ∷ []) ∷ [])
 
 -- one that has no memory: a call costs 24
 abbrev pub refuser : Proc
