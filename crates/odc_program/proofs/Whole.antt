@@ -214,7 +214,7 @@ module _ (S : s.State → s.State → Type 0) (Stops : s.Leave → s.State → a
         form env at (t.if_ init i body other) c = (b.conditionals S Stops r (maybe env init) (λ d. truths_of (s.in_context_of env d) i) (execs env body) (execs env other)).by c
         form env at (t.loop l init i post body) c = (b.loops S Stops r n m l g (maybe env init) (λ d. conditions (s.in_context_of env d) i) (maybe env post) (execs env body)).by c
         form env at (t.range l (t.from_to i j closed) h k body) c = b.spans S Stops r env at (t.ty i) l h k closed (values (s.in_context_of env c) i) (values (s.in_context_of env c) j) (λ env. execs env body) c
-        form env at (t.range l (t.through i by_place) h k body) c = b.throughs S Stops r env at (t.ty i) (x.element_type (s.shape_of env (t.ty i))) l h k by_place (bases (s.in_context_of env c) i) (λ env. execs env body) c
+        form env at (t.range l (t.through i by_place) h k body) c = b.throughs S Stops r env at (t.at_of i) (t.ty i) (x.element_type (s.shape_of env (t.ty i))) l h k by_place (bases (s.in_context_of env c) i) (λ env. execs env body) c
         form env at (t.switch l init i cs) c = (b.headers S Stops r (maybe env init) (record { by = λ d. (b.cases S Stops r l (λ e. subjects (s.in_context_of env e) i) (case_tests (s.in_context_of env d) cs) (bodies env cs)).by d })).by c
         form env at (t.type_switch l i cs) c = (b.type_cases S Stops r l (λ d. values (s.in_context_of env d) i) (tag_tests env at (t.ty i) cs) (type_bodies env at cs)).by c
         form env at (t.defer i) c = (exec env i).by c

@@ -8,7 +8,7 @@ ghost use Rattle.odc_program.specs.Typing.Frames.{framed};
 ghost use Rattle.odc_program.specs.Rows.Told.{told, asked, Prints, Leaves};
 ghost use Rattle.odc_program.specs.States.Bytes.{global, nil, to};
 ghost use Rattle.odc_program.specs.Laws.{StoppedStays, OnlyGrows};
-ghost use Rattle.odc_program.specs.Rows.Writing.{at};
+ghost use Rattle.odc_program.specs.Rows.Writing.{at, zero, show, set, num, context_index, Plain};
 ghost use Rattle.odc_program.specs.Trees.Tree as tree;
 ghost use Rattle.odc_program.specs.Rows.First as first;
 ghost use Rattle.odc_program.specs.Rows.Second as second;
@@ -534,9 +534,10 @@ pub fn others_are_well()
     ensures { map well (asking.answers_less ∷ asking.marked ∷ asking.regions ∷ asking.slices_raw ∷ asking.reads_outside ∷ orders.callee_first ∷ orders.finds_once ∷ orders.reads_first ∷ orders.ends_once ∷ orders.becomes_variant ∷ []) ≡ replicate 10 true }
 {}
 
-/// And some more: switches that cover an enum, by a span and a default, or a union; results and elements that are assigned.
+/// And some more: switches that cover an enum, by a span and a default, or a union; results and elements that are assigned;
+/// a contextless procedure that assigns a context; a struct that points to itself.
 pub fn covering_are_well()
-    ensures { map well (ill.over_errors 4 tree.no_cases ∷ ill.over_errors 1 (tree.default_case tree.finish tree.no_cases) ∷ ill.over_variants (tree.type_case (2 ∷ []) None tree.finish tree.no_types) ∷ ill.over_variants (tree.default_type None tree.finish tree.no_types) ∷ ill.result_assigned ∷ ill.turn_assigned true ∷ []) ≡ replicate 6 true }
+    ensures { map well (ill.over_errors 4 tree.no_cases ∷ ill.over_errors 1 (tree.default_case tree.finish tree.no_cases) ∷ ill.over_variants (tree.type_case (2 ∷ []) None tree.finish tree.no_types) ∷ ill.over_variants (tree.default_type None tree.finish tree.no_types) ∷ ill.result_assigned ∷ ill.turn_assigned true ∷ ill.assigns_context (zero 1 ∷ ill.set_context ∷ show (context_index ∷ []) ∷ []) ∷ ill.touches_helper 3952 ∷ ill.linked ∷ ill.global_of 0 ∷ []) ≡ replicate 10 true }
 {}
 
 /// Programs that aren't well: a call through another type, labels and variables that aren't there, variables that lie
@@ -561,6 +562,13 @@ pub fn nor_these()
 /// A procedure that stands twice, a location whose literal is another, and a statement in a file without a path.
 pub fn nor_those()
     ensures { map well (ill.instance_twice ∷ ill.other_path ∷ ill.stands_nowhere ∷ []) ≡ replicate 3 false }
+{}
+
+/// Contexts that aren't there, helpers that call or lie too near, allocators of another type, variables that begin twice
+/// or are others', the address of an element in columns, parts, defaults and headers that don't go together, and types
+/// that no value has.
+pub fn nor_any_of_these()
+    ensures { map well (ill.assigns_context (set context_index (num 1) ∷ []) ∷ ill.helper_calls ∷ ill.touches_helper 3960 ∷ ill.asks_another Plain ∷ ill.marked_other ∷ ill.declared_twice ∷ ill.result_declared ∷ ill.parameter_runs ∷ ill.element_addressed ∷ ill.part_twice ∷ ill.default_twice ∷ ill.header_defers ∷ ill.several_of_one ∷ ill.variable_of_several ∷ ill.too_great ∷ ill.holds_itself ∷ ill.points_to_itself ∷ ill.global_of 9 ∷ []) ≡ replicate 18 false }
 {}
 
 /// Whether the two allocator procedures of the runtime library are there.

@@ -19,10 +19,10 @@ in_columns = program (main (at_place SoaThree 128 ∷ []) []
 
 -- `for &e in v { e.b = 4 }` and `for e in v` over three elements: 5; 2 and three times 7; 2 and three times 14
 abbrev pub loops_in_columns : Program
-loops_in_columns = program (main (at_place SoaThree 128 ∷ at_place Rec 168 ∷ []) []
+loops_in_columns = program (main (at_place SoaThree 128 ∷ at_place Rec 168 ∷ at_place Rec 192 ∷ []) []
     (zero 0 ∷
     st (t.range 1 (t.through (loc SoaThree 0) true) (Some 1) None (block_of (set (field I64 (loc Rec 1) 1) (of_type I64 (pos 4)) ∷ []))) ∷
-    st (t.range 2 (t.through (loc SoaThree 0) false) (Some 1) None (block_of (show (field I64 (loc Rec 1) 1 ∷ []) ∷ []))) ∷ []) ∷ [])
+    st (t.range 2 (t.through (loc SoaThree 0) false) (Some 2) None (block_of (show (field I64 (loc Rec 2) 1 ∷ []) ∷ []))) ∷ []) ∷ [])
 
 -- ---- dynamic arrays over storage of a global; procedure 1 is the kept allocator where there is one
 abbrev pub array_over : ℕ → ℕ → t.Parts → t.Expr

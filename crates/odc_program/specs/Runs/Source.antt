@@ -62,7 +62,7 @@ element_type _ = 0
 abbrev pub run_over : Calls → Env → Place → ℕ → Over → Option ℕ → Option ℕ → (Env → Part) → Part
 run_over calls env at l (from_to e f closed) x y body c = run_span env at (ty e) l x y closed (value_of calls (in_context_of env c) e) (value_of calls (in_context_of env c) f) body c
 run_over calls env at l (through e by_place) x y body c =
-    run_through env at (ty e) (element_type (shape_of env (ty e))) l x y by_place (base_of calls (in_context_of env c) e) body c
+    run_through env at (at_of e) (ty e) (element_type (shape_of env (ty e))) l x y by_place (base_of calls (in_context_of env c) e) body c
 
 -- ---- statements; n bounds the turns of each loop
 abbrev mutual

@@ -1,5 +1,5 @@
 -- The programs that typing gives: each node has the type that its rule gives it, and everything that it names is there.
-use Rattle.std.specs.Prelude.{ℕ, zero, suc, ◌+◌, ◌-◌, ◌*◌, ◌==◌, ◌&&◌, ◌||◌, not, Bool, true, false, nat_le, nat_lt, int_le, int_lt, if◌then◌else◌, ℤ, pos, List, [], ◌∷◌, ◌++◌, length, take, drop, Option, Some, None, slice_get}
+use Rattle.std.specs.Prelude.{ℕ, zero, suc, ◌+◌, ◌-◌, ◌*◌, ◌==◌, ◌&&◌, ◌||◌, not, Bool, true, false, nat_le, nat_lt, int_le, int_lt, if◌then◌else◌, ℤ, pos, List, [], ◌∷◌, ◌++◌, length, take, drop, max, get_or, Option, Some, None, slice_get}
 use Rattle.std.specs.Ordering.{int_eq}
 use Rattle.odc_program.specs.declared.ops.Taken.{Taken}
 use Rattle.odc_program.specs.declared.ops.UnaryOp.{UnaryOp}
@@ -19,7 +19,9 @@ use Rattle.odc_program.specs.Kinds.Places.{home_type}
 use Rattle.odc_program.specs.Kinds.Calling.{last_or, before_last}
 use Rattle.odc_program.specs.Kinds.Builtins.{target_of}
 use Rattle.odc_program.specs.Runs.Source.{env_of, env_in}
+use Rattle.odc_program.specs.States.Bytes.{Block, literal, Byte, number, of_address, of_procedure}
 use Rattle.odc_program.specs.Typing.WellTypes
+use Rattle.odc_program.specs.Typing.Gathered.{begun_in, helped_in}
 
 -- ---- what stands as a place: an address, an element in columns, or a part of the context
 pub data Stand : Type 0 where
@@ -200,6 +202,15 @@ part_type env (array e n) d t = (e == t) && is_element_at d (size_of env e) n
 part_type env (soa_array r n) d t = (r == t) && nat_lt d n
 part_type env _ d t = false
 
+-- no two parts of more than no bytes stand at one place
+abbrev pub has_part_at : Env → ℕ → Parts → Bool
+has_part_at env d no_parts = false
+has_part_at env d (part at e ps) = ((d == at) && nat_lt 0 (size_of env (ty e))) || has_part_at env d ps
+
+abbrev pub parts_apart : Env → Parts → Bool
+parts_apart env no_parts = true
+parts_apart env (part d e ps) = (not (nat_lt 0 (size_of env (ty e))) || not (has_part_at env d ps)) && parts_apart env ps
+
 -- a value is built in a local of its own type, a slice over a local that is an array of its elements
 abbrev pub is_home : Env → Shape → ℕ → ℕ → Bool
 is_home env (slice e) t u = is_array_over (shape_of env u)
@@ -290,6 +301,8 @@ pub record Ways : Type 0 where
   pub begun : List ℕ
   -- those of them that can't be assigned: parameters, and names of loops and of type switches
   pub fixed : List ℕ
+  -- and those that are elements of a container in columns
+  pub columns : List ℕ
   -- of all statements around it
   pub labels : List ℕ
   pub breaks : List ℕ
@@ -354,8 +367,22 @@ abbrev pub names_allocator : Env → List ℕ → Bool
 names_allocator env [] = false
 names_allocator env (t ∷ ts) = WellTypes.is_allocator env t || names_allocator env ts
 
--- built-in procedures that ask the context for its allocator
+-- built-in procedures that hand their place to an allocator
+abbrev pub hands_place : Builtin → Bool
+hands_place b.New = true
+hands_place b.Make = true
+hands_place b.Append = true
+hands_place b.Reserve = true
+hands_place b.Resize = true
+hands_place b.Delete = true
+hands_place b.Free = true
+hands_place b.FreeAll = true
+hands_place _ = false
+
+-- built-in procedures that need a context: those that print, and those that ask its allocator
 abbrev pub asks_context : Env → Builtin → List ℕ → Bool
+asks_context env b.Print ts = true
+asks_context env b.Println ts = true
 asks_context env b.Append ts = true
 asks_context env b.Reserve ts = true
 asks_context env b.Resize ts = true
@@ -369,6 +396,10 @@ asks_context env _ ts = false
 abbrev pub numbers_below : ℕ → List ℕ
 numbers_below zero = []
 numbers_below (suc n) = n ∷ numbers_below n
+
+-- a helper prints, and asks no allocator
+abbrev pub can_ask : Ways → Env → Builtin → List ℕ → Bool
+can_ask w env which ts = if w.counts then not (hands_place which) else ((w.context || not (asks_context env which ts)) && (not (hands_place which) || WellTypes.has_allocators env))
 
 -- ---- operands that one type alone doesn't tell
 abbrev pub is_nil : Expr → Bool
@@ -407,18 +438,6 @@ abbrev pub has_literal : Env → Place → Bool
 has_literal env at =
     WellTypes.is_there (slice_get env.tables.literals (env.tables.files + at.file.number)) (λ l. WellTypes.is_there (slice_get env.tables.paths at.file.number) (λ p. WellTypes.same_list l.bytes p))
 
--- built-in procedures that hand their place to an allocator
-abbrev pub hands_place : Builtin → Bool
-hands_place b.New = true
-hands_place b.Make = true
-hands_place b.Append = true
-hands_place b.Reserve = true
-hands_place b.Resize = true
-hands_place b.Delete = true
-hands_place b.Free = true
-hands_place b.FreeAll = true
-hands_place _ = false
-
 abbrev pub is_located : Env → Place → Kind → Bool
 is_located env at Tree.location = has_literal env at
 is_located env at (Tree.builtin which order es) = has_path env at && (not (hands_place which) || has_literal env at)
@@ -444,21 +463,25 @@ abbrev mutual
 abbrev pub can_change : Ways → Env → Expr → Bool
 can_change w env e = can_be_stored (stands env e) && not (is_part_of_one env w.fixed e)
 
+-- an element of a container in columns has no address
+abbrev pub is_one_of : List ℕ → Expr → Bool
+is_one_of xs (expr t at (Tree.local x)) = WellTypes.has x xs
+is_one_of xs e = false
+
 -- a parameter has no address
 abbrev pub parameters_of : Ways → Env → List ℕ
 parameters_of w env = if w.counts then [] else numbers_below env.proc.parameters
 
 abbrev pub has_address : Ways → Env → Expr → Bool
-has_address w env e = is_somewhere (stands env e) && not (is_part_of_one env (parameters_of w env) e)
+has_address w env e = is_somewhere (stands env e) && (not (is_part_of_one env (parameters_of w env) e) && not (is_one_of w.columns e))
 
 -- ---- expressions
+abbrev pub local_types : List Local → List ℕ
+local_types [] = []
+local_types (l ∷ ls) = l.ty ∷ local_types ls
+
 abbrev pub helper_type : Env → List Head → ℕ → List ℕ → ℕ → Bool
 helper_type env hs h ts t = WellTypes.is_there (slice_get hs h) (λ q. WellTypes.same_list ts (local_types (take q.parameters q.locals)) && WellTypes.same_list (WellTypes.values_in env t) (local_types (take q.results (drop q.parameters q.locals))))
-  where
-    local_types : List Local → List ℕ
-    local_types [] = []
-    local_types (l ∷ ls) = l.ty ∷ local_types ls
-
 abbrev mutual
   pub well_expr : Ways → Env → Expr → Bool
   well_expr w env (expr t at k) = nat_lt t (length env.tables.types) && (is_located env at k && well_kind w env t k)
@@ -474,11 +497,11 @@ abbrev mutual
   well_kind w env t (Tree.index e i) = WellTypes.is_whole (shape_of env (ty i)) && (index_type env (shape_of env (ty e)) t && (well_expr w env e && well_expr w env i))
   well_kind w env t (Tree.cut e low high) = cut_type env (shape_of env (ty e)) (shape_of env t) && (lies_if_fixed (shape_of env (ty e)) (stands env e) && (well_expr w env e && (well_bound w env low && well_bound w env high)))
   well_kind w env t (Tree.column e n) = column_type env (shape_of env (ty e)) n (shape_of env t) && well_expr w env e
-  well_kind w env t (Tree.call n order es) = need_of env n (λ p. (w.context || not p.has_context) && call_type env (shape_of env p.ty) (in_order 0 order (tys es)) t) && (is_order order (tys es) && well_exprs w env es)
-  well_kind w env t (Tree.call_value marked e es) = (marked || (w.context || not (is_odin (shape_of env (ty e))))) && (call_type env (shape_of env (ty e)) (tys es) t && (well_expr w env e && well_exprs w env es))
-  well_kind w env t (Tree.builtin which order es) = (w.context || not (asks_context env which (tys es))) && (builtin_type env which (in_order 0 order (tys es)) t && (is_order order (tys es) && well_exprs w env es))
+  well_kind w env t (Tree.call n order es) = need_of env n (λ p. not w.counts && ((w.context || not p.has_context) && call_type env (shape_of env p.ty) (in_order 0 order (tys es)) t)) && (is_order order (tys es) && well_exprs w env es)
+  well_kind w env t (Tree.call_value marked e es) = (not w.counts && (if marked then (WellTypes.is_asked env (ty e)) else (w.context || not (is_odin (shape_of env (ty e)))))) && (call_type env (shape_of env (ty e)) (tys es) t && (well_expr w env e && well_exprs w env es))
+  well_kind w env t (Tree.builtin which order es) = can_ask w env which (in_order 0 order (tys es)) && (builtin_type env which (in_order 0 order (tys es)) t && (is_order order (tys es) && well_exprs w env es))
   well_kind w env t (Tree.or_return e variant) = w.returns && (or_return_type env t variant (WellTypes.values_in env (ty e)) && well_expr w env e)
-  well_kind w env t (Tree.build home ps) = build_type env t home && well_parts w env (shape_of env (home_type env t home)) ps
+  well_kind w env t (Tree.build home ps) = build_type env t home && (parts_apart env ps && well_parts w env (shape_of env (home_type env t home)) ps)
   well_kind w env t (Tree.unary o e) = unary_type env o (ty e) t && well_expr w env e
   well_kind w env t (Tree.binary o e f) = binary_type env o (ty e) (ty f) t && (operands env o e f && (well_expr w env e && well_expr w env f))
   well_kind w env t (Tree.convert e) = convert_type env (ty e) t && well_expr w env e
@@ -539,9 +562,14 @@ declares env xs nothing = begins_zero env xs
 declares env [] values = true
 declares env xs values = begins env xs (rights_types values)
 
+-- a context that is assigned as a whole need not be there before
+abbrev pub well_left : Ways → Env → Expr → Bool
+well_left w env (expr t at Tree.context) = has_path env at && (nat_lt t (length env.tables.types) && WellTypes.is_context env t)
+well_left w env e = can_change w env e && well_expr w env e
+
 abbrev pub well_lefts : Ways → Env → Lefts → List ℕ → Bool
 well_lefts w env no_lefts [] = true
-well_lefts w env (left_ e es) (t ∷ ts) = (ty e == t) && (can_change w env e && (well_expr w env e && well_lefts w env es ts))
+well_lefts w env (left_ e es) (t ∷ ts) = (ty e == t) && (well_left w env e && well_lefts w env es ts)
 well_lefts w env (dropped es) (t ∷ ts) = well_lefts w env es ts
 well_lefts w env _ _ = false
 
@@ -594,11 +622,7 @@ names_case env u vs None = true
 names_case env u vs (Some x) = WellTypes.is_there (slice_get env.proc.locals x) (λ l. case_type env u vs l.ty)
 
 abbrev pub result_types : Env → List ℕ
-result_types env = types_in (take env.proc.results (drop env.proc.parameters env.proc.locals))
-  where
-    types_in : List Local → List ℕ
-    types_in [] = []
-    types_in (l ∷ ls) = l.ty ∷ types_in ls
+result_types env = local_types (take env.proc.results (drop env.proc.parameters env.proc.locals))
 
 abbrev pub returns : Env → Rights → Bool
 returns env nothing = true
@@ -656,9 +680,28 @@ covers_variants (variants tag ts) cs = has_default_type cs || WellTypes.every (�
 covers_variants _ cs = false
 
 -- the name of a loop by place is the element itself, and can be assigned
-abbrev pub begins_turn : Over → Option ℕ → Option ℕ → Ways → Ways
-begins_turn (through e true) x k w = begins_names (x ∷ []) (begins_fixed k w)
-begins_turn over x k w = begins_fixed x (begins_fixed k w)
+abbrev pub begins_element : Bool → Option ℕ → Ways → Ways
+begins_element row None w = w
+begins_element true (Some x) w = record w { begun = x ∷ w.begun; columns = x ∷ w.columns }
+begins_element false (Some x) w = record w { begun = x ∷ w.begun }
+
+abbrev pub has_columns : Shape → Bool
+has_columns (soa_array e n) = true
+has_columns (soa_slice e) = true
+has_columns (soa_dynamic e) = true
+has_columns _ = false
+
+abbrev pub begins_turn : Env → Over → Option ℕ → Option ℕ → Ways → Ways
+begins_turn env (through e true) x k w = begins_element (has_columns (shape_of env (ty e))) x (begins_fixed k w)
+begins_turn env over x k w = begins_fixed x (begins_fixed k w)
+
+-- what may stand in a header
+abbrev pub is_simple : Stmt → Bool
+is_simple (stmt at (Tree.declare xs values)) = true
+is_simple (stmt at (Tree.assign lefts values)) = true
+is_simple (stmt at (Tree.change o e f)) = true
+is_simple (stmt at (Tree.eval e)) = true
+is_simple s = false
 
 -- ---- statements
 abbrev mutual
@@ -673,7 +716,7 @@ abbrev mutual
   well_form w env (Tree.block l body) = is_new l w && well_stmts (breaking l w) env body
   well_form w env (Tree.if_ init e body other) = well_maybe w env init && (WellTypes.is_truth (shape_of env (ty e)) && (well_expr (behind_maybe init w) env e && (well_stmts (behind_maybe init w) env body && well_stmts (behind_maybe init w) env other)))
   well_form w env (Tree.loop l init e post body) = is_new l w && (well_maybe w env init && (well_condition (behind_maybe init w) env e && (well_maybe (behind_maybe init w) env post && well_stmts (looping l (behind_maybe init w)) env body)))
-  well_form w env (Tree.range l over x k body) = is_new l w && (well_over w env over x && (names_int env k && well_stmts (looping l (begins_turn over x k w)) env body))
+  well_form w env (Tree.range l over x k body) = is_new l w && (well_over w env over x && (names_int env k && well_stmts (looping l (begins_turn env over x k w)) env body))
   well_form w env (Tree.switch l init e cs) = is_new l w && (well_maybe w env init && (covers env (subject_type e) cs && (well_subject (behind_maybe init w) env e && well_cases (breaking l (behind_maybe init w)) env (subject_type e) cs)))
   well_form w env (Tree.type_switch l e cs) = is_new l w && (covers_variants (shape_of env (ty e)) cs && (well_expr w env e && well_types (falling false (breaking l w)) env (ty e) cs))
   well_form w env (Tree.defer s) = well_stmt (deferred w) env s
@@ -685,7 +728,7 @@ abbrev mutual
 
   pub well_maybe : Ways → Env → MaybeStmt → Bool
   well_maybe w env no_stmt = true
-  well_maybe w env (some_stmt s) = well_stmt w env s
+  well_maybe w env (some_stmt s) = is_simple s && well_stmt w env s
 
   pub well_stmts : Ways → Env → Stmts → Bool
   well_stmts w env finish = true
@@ -694,12 +737,12 @@ abbrev mutual
   pub well_cases : Ways → Env → Option ℕ → Cases → Bool
   well_cases w env u no_cases = true
   well_cases w env u (one_case is body rest) = well_items w env u is && (well_stmts (falling (is_followed rest) w) env body && well_cases w env u rest)
-  well_cases w env u (default_case body rest) = well_stmts (falling (is_followed rest) w) env body && well_cases w env u rest
+  well_cases w env u (default_case body rest) = not (has_default rest) && (well_stmts (falling (is_followed rest) w) env body && well_cases w env u rest)
 
   pub well_types : Ways → Env → ℕ → TypeCases → Bool
   well_types w env u no_types = true
   well_types w env u (type_case vs x body rest) = names_case env u vs x && (WellTypes.every (λ n. WellTypes.is_there (WellTypes.variant_in (shape_of env u) n) (λ t. true)) vs && (well_stmts (begins_fixed x w) env body && well_types w env u rest))
-  well_types w env u (default_type x body rest) = names_case env u [] x && (well_stmts (begins_fixed x w) env body && well_types w env u rest)
+  well_types w env u (default_type x body rest) = (names_case env u [] x && not (has_default_type rest)) && (well_stmts (begins_fixed x w) env body && well_types w env u rest)
 
 -- ---- procedures: variables lie in the frame, eight bytes from its ends and from each other
 abbrev pub apart : Env → Local → Local → Bool
@@ -713,15 +756,11 @@ abbrev pub in_frame : Env → ℕ → Local → Bool
 in_frame env frame l = nat_le 8 l.place && nat_le (l.place + size_of env l.ty + 8) frame
 
 abbrev pub types_known : Env → List Local → Bool
-types_known env ls = WellTypes.every (λ l. nat_lt l.ty (length env.tables.types)) ls
+types_known env ls = WellTypes.every (λ l. WellTypes.is_value_type env l.ty) ls
 
 abbrev pub signature : Env → Head → Shape → Bool
 signature env p (procedure odin ps rs) =
-    (if odin then p.has_context else not p.has_context) && ((p.parameters == length ps) && ((p.results == length rs) && WellTypes.same_list (types_in (take (p.parameters + p.results) p.locals)) (ps ++ rs)))
-  where
-    types_in : List Local → List ℕ
-    types_in [] = []
-    types_in (l ∷ ls) = l.ty ∷ types_in ls
+    (if odin then p.has_context else not p.has_context) && ((p.parameters == length ps) && ((p.results == length rs) && WellTypes.same_list (local_types (take (p.parameters + p.results) p.locals)) (ps ++ rs)))
 signature env p _ = false
 
 abbrev pub well_head : Env → Head → Bool
@@ -735,33 +774,45 @@ heads_of (h ∷ hs) = h.head ∷ heads_of hs
 
 -- what a helper needs of the caller's frame, behind its 128 bytes
 abbrev pub in_helper : Env → Head → Local → Bool
-in_helper env q l = nat_le (l.place + size_of env l.ty + 128) q.frame
+in_helper env q l = nat_le (l.place + size_of env l.ty + 136) q.frame
 
-abbrev pub helper_bytes : List Helper → ℕ
-helper_bytes [] = 0
-helper_bytes (h ∷ hs) = h.head.frame - 128 + helper_bytes hs
+-- of each helper, with the greatest of those that it calls, which stand behind it
+abbrev pub greatest_of : List ℕ → List ℕ → ℕ
+greatest_of rooms [] = 0
+greatest_of rooms (h ∷ hs) = max (get_or rooms h 0) (greatest_of rooms hs)
+
+abbrev pub with_room : Helper → List ℕ → List ℕ
+with_room h rooms = (h.head.frame - 128 + greatest_of rooms (helped_in h.body)) ∷ rooms
+
+abbrev pub helper_rooms : List Helper → List ℕ
+helper_rooms [] = []
+helper_rooms (h ∷ hs) = with_room h (helper_rooms hs)
 
 -- parameters and results begin with the call
 abbrev pub in_helper_of : List Head → Head → Ways
-in_helper_of hs p = record { helpers = hs; begun = numbers_below (p.parameters + p.results); fixed = []; labels = []; breaks = []; continues = []; falls = false; returns = true; counts = true; context = false }
+in_helper_of hs p = record { helpers = hs; begun = numbers_below (p.parameters + p.results); fixed = []; columns = []; labels = []; breaks = []; continues = []; falls = false; returns = true; counts = true; context = false }
 
 abbrev pub in_procedure : List Head → Head → Ways
-in_procedure hs p = record { helpers = hs; begun = numbers_below (p.parameters + p.results); fixed = numbers_below p.parameters; labels = []; breaks = []; continues = []; falls = false; returns = true; counts = false; context = p.has_context }
+in_procedure hs p = record { helpers = hs; begun = numbers_below (p.parameters + p.results); fixed = numbers_below p.parameters; columns = []; labels = []; breaks = []; continues = []; falls = false; returns = true; counts = false; context = p.has_context }
 
 -- a procedure with helpers leaves the last 128 bytes of its frame to them
 abbrev pub leaves_room : Env → List Helper → Bool
 leaves_room env [] = true
-leaves_room env (h ∷ hs) = WellTypes.every (λ l. nat_le (l.place + size_of env l.ty + 128) env.proc.frame) env.proc.locals
+leaves_room env (h ∷ hs) = WellTypes.every (λ l. nat_le (l.place + size_of env l.ty + 136) env.proc.frame) env.proc.locals
+
+-- each variable behind the parameters and results begins at one place of the body
+abbrev pub begins_once : Head → Stmts → Bool
+begins_once p body = WellTypes.once (begun_in body) && WellTypes.every (nat_le (p.parameters + p.results)) (begun_in body)
 
 -- a helper sees those behind it
 abbrev pub well_helpers : Env → List Helper → Bool
 well_helpers env [] = true
 well_helpers env (h ∷ hs) =
     (nat_le 128 h.head.frame && (types_known env h.head.locals && (WellTypes.every (in_helper env h.head) h.head.locals && (all_apart env h.head.locals && nat_le (h.head.parameters + h.head.results) (length h.head.locals))))) &&
-    (well_stmts (in_helper_of (heads_of hs) h.head) (env_in env h.head) h.body && well_helpers env hs)
+    (begins_once h.head h.body && (well_stmts (in_helper_of (heads_of hs) h.head) (env_in env h.head) h.body && well_helpers env hs))
 
 abbrev pub well_body : Env → Body → Bool
-well_body env body = well_stmts (in_procedure (heads_of body.helpers) env.proc) env body.stmts && (leaves_room env body.helpers && (well_helpers env body.helpers && nat_le (helper_bytes body.helpers) 128))
+well_body env body = begins_once env.proc body.stmts && (well_stmts (in_procedure (heads_of body.helpers) env.proc) env body.stmts && (leaves_room env body.helpers && (well_helpers env body.helpers && WellTypes.every (λ n. nat_le n 128) (helper_rooms body.helpers))))
 
 abbrev pub well_procedures : Tables → ℕ → List Head → List Body → Bool
 well_procedures tables f [] [] = true
@@ -786,21 +837,37 @@ abbrev pub instances_once : List Head → Bool
 instances_once [] = true
 instances_once (p ∷ ps) = WellTypes.every (λ q. not (same_instance p.instance q.instance)) ps && instances_once ps
 
+-- a global starts with numbers and addresses of literals
+abbrev pub is_literal_at : Env → Block → ℕ → Bool
+is_literal_at env (literal at n) o = (o == 0) && WellTypes.is_there (slice_get env.tables.literals n) (λ l. l.at == at)
+is_literal_at env _ o = false
+
+abbrev pub well_byte : Env → Byte → Bool
+well_byte env (number n) = nat_lt n 256
+well_byte env (of_address b o k) = is_literal_at env b o
+well_byte env (of_procedure p k) = false
+
 abbrev pub well_global : Env → Global → Bool
-well_global env g = nat_lt g.ty (length env.tables.types) && ((length g.first == size_of env g.ty) && has_path env g.place)
+well_global env g = WellTypes.is_value_type env g.ty && ((length g.first == size_of env g.ty) && (WellTypes.every (well_byte env) g.first && has_path env g.place))
+
+abbrev pub is_allocator_procedure : Env → ℕ → Bool
+is_allocator_procedure env f = WellTypes.is_there (slice_get env.tables.procedures f) (λ p. WellTypes.is_asked env p.ty)
+
+-- the first context's allocators, where they are there
+abbrev pub may_ask : Env → Option ℕ → Bool
+may_ask env None = true
+may_ask env (Some f) = is_allocator_procedure env f
 
 abbrev pub well_tables : Env → Bool
 well_tables env =
     WellTypes.well_rows env 0 env.tables.types && (WellTypes.each_once env.tables.types && (WellTypes.every (well_global env) env.tables.globals &&
-    (WellTypes.every (λ l. has_path env l.place) env.tables.literals && (instances_once env.tables.procedures && nat_lt env.tables.allocator (length env.tables.types)))))
+    (WellTypes.every (λ l. has_path env l.place) env.tables.literals && (instances_once env.tables.procedures && (may_ask env env.tables.heap && may_ask env env.tables.temp)))))
 
 abbrev pub well : Program → Bool
 well p =
     well_tables (env_of p.tables outer_head 0 0 0 None) && (well_procedures p.tables 0 p.tables.procedures p.bodies && WellTypes.is_there (slice_get p.tables.procedures p.main) is_main)
 
 -- ---- the allocator procedures of the runtime library are there
-abbrev pub is_allocator_procedure : Env → Option ℕ → Bool
-is_allocator_procedure env f = WellTypes.is_there f (λ g. WellTypes.is_there (slice_get env.tables.procedures g) (λ p. base_type env p.ty == base_type env env.tables.allocator))
-
 abbrev pub has_runtime : Program → Bool
-has_runtime p = is_allocator_procedure (env_of p.tables outer_head 0 0 0 None) p.tables.heap && is_allocator_procedure (env_of p.tables outer_head 0 0 0 None) p.tables.temp
+has_runtime p =
+    WellTypes.is_there p.tables.heap (is_allocator_procedure (env_of p.tables outer_head 0 0 0 None)) && WellTypes.is_there p.tables.temp (is_allocator_procedure (env_of p.tables outer_head 0 0 0 None))
