@@ -4,4 +4,8 @@ pub mod Writing
 pub mod First
 pub mod Second
 pub mod Third
+pub mod Columns
+pub mod Asking
+pub mod Orders
+pub mod Framed
 pub mod Ill

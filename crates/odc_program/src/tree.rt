@@ -2,19 +2,14 @@
 
 use crate::ops::{BinaryOp, Builtin, Constant, Taken, UnaryOp};
 use odc_text::place::Place;
+use odc_types::TyId;
 use std::marker::Model;
-
-/// The number of a type in the program's table.
-#[derive(Clone, Copy)]
-pub struct TypeId {
-    pub index: u32,
-}
 
 /// An expression, with its type.
 #[cycle(exprs)]
 #[derive(Drop)]
 pub struct TExpr {
-    pub ty: TypeId,
+    pub ty: TyId,
     pub at: Place,
     pub kind: Box<TExprKind>,
 }

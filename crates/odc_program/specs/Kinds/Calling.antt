@@ -10,7 +10,7 @@ use Rattle.odc_program.specs.Trees.Tree.{in_order}
 use Rattle.odc_program.specs.Trees.Program.{Shape, truth, names, variants, procedure, several}
 use Rattle.odc_program.specs.States.State.{Do, back, spend, leave_behind, stray, known, fail, is_live, Base, is, Context, Env, Calls, size_of, shape_of, base_type}
 use Rattle.odc_program.specs.Kinds.Places.{context_value, read_truth, store_spot, gives, procedure_at}
-use Rattle.odc_program.specs.Kinds.Operators.{same_pointer, injected}
+use Rattle.odc_program.specs.Kinds.Operators.{same_pointer, put_in}
 
 -- ---- calls
 abbrev pub handed : Env → ℕ → Context
@@ -70,13 +70,14 @@ types_of t (several ts) = ts
 types_of t _ = t ∷ []
 
 -- a part as it is taken: a variant becomes a union there
-abbrev pub taken_part : Env → ℕ → Option ℕ → Value → Value
-taken_part env into None v = v
-taken_part env into (Some variant) v = injected env into variant v
+abbrev pub taken_part : Env → ℕ → Option ℕ → Value → Do Value
+taken_part env into None v = pure v
+taken_part env into (Some variant) v = put_in env into variant v
 
-abbrev pub taken_parts : Env → List Taken → Value → List Value
-taken_parts env [] v = []
-taken_parts env (t ∷ ts) v = taken_part env t.into t.variant (piece 0 (size_of env t.from) v) ∷ taken_parts env ts (drop (size_of env t.from) v)
+abbrev pub taken_parts : Env → List Taken → Value → Do (List Value)
+taken_parts env [] v = pure []
+taken_parts env (t ∷ ts) v =
+    taken_part env t.into.index t.variant (piece 0 (size_of env t.from.index) v) >>= (λ w. taken_parts env ts (drop (size_of env t.from.index) v) >>= (λ ws. pure (w ∷ ws)))
 
 abbrev pub joined : List Value → Value
 joined [] = []
@@ -123,7 +124,7 @@ goes_on at _ v = is_nil_pointer at (piece 0 8 v)
 
 abbrev pub or_leave : Env → Place → Option ℕ → List Value → Bool → Do Base
 or_leave env at variant vs true = pure (is (joined (all_but_last vs)))
-or_leave env at variant vs false = store_result at env (last_result env) (taken_part env (last_result_type env) variant (last_or [] vs)) >>> halt back
+or_leave env at variant vs false = taken_part env (last_result_type env) variant (last_or [] vs) >>= store_result at env (last_result env) >>> halt back
 
 abbrev pub or_parts : Env → Place → Option ℕ → List ℕ → List Value → Do Base
 or_parts env at variant ts vs = goes_on at (shape_of env (last_or 0 ts)) (last_or [] vs) >>= or_leave env at variant vs

@@ -3,6 +3,7 @@ use Rattle.std.specs.Prelude.{ℕ, zero, suc, ◌+◌, ◌-◌, ◌*◌, ◌/◌
 use Rattle.std.specs.Ordering.{int_eq}
 use Rattle.odc_text.specs.declared.place.Place.{Place}
 use Rattle.odc_text.specs.declared.check.Check.TheVariants as check
+use Rattle.odc_types.specs.Widths.{is_signed}
 use Rattle.odc_program.specs.declared.ops.UnaryOp.{UnaryOp}
 use Rattle.odc_program.specs.declared.ops.UnaryOp.TheVariants as un
 use Rattle.odc_program.specs.declared.ops.BinaryOp.{BinaryOp}
@@ -11,7 +12,7 @@ use Rattle.odc_program.specs.States.Run.{pure, ◌>>=◌, ◌>>>◌, moved}
 use Rattle.odc_program.specs.States.Bytes.{number, Pointer, nil, to, Value, number_of, zeros, residue, int_bytes, int_of, truth_bytes, pointer_of, procedure_of, piece, same}
 use Rattle.odc_program.specs.Trees.Program.{Shape, truth, whole, rune, names, text, raw, address, slice, dynamic, soa_slice, soa_dynamic, variants, procedure, several}
 use Rattle.odc_program.specs.States.State.{Do, spend, stray, known, fail, read_at, is_live, Base, is, Env, size_of, shape_of}
-use Rattle.odc_program.specs.Kinds.Places.{read_truth, as_read, whole_of}
+use Rattle.odc_program.specs.Kinds.Places.{read_truth, as_read, gives, whole_of}
 
 -- ---- one operand
 abbrev pub complement : ℤ → ℤ
@@ -155,9 +156,9 @@ tag_offset _ = 0
 
 -- two values of a shape; a slice, a dynamic array and a union are compared with nil alone, by their address or tag
 abbrev pub by_shape : Env → Place → BinaryOp → ℕ → Shape → Value → Value → Do Value
-by_shape env at o size (whole signed) v w = wholes_by at o size (int_of signed size v) (int_of signed size w)
+by_shape env at o size (whole width) v w = wholes_by at o size (int_of (is_signed width) size v) (int_of (is_signed width) size w)
 by_shape env at o size rune v w = wholes_by at o size (int_of true size v) (int_of true size w)
-by_shape env at o size (names signed es) v w = wholes_by at o size (int_of signed size v) (int_of signed size w)
+by_shape env at o size (names width es) v w = wholes_by at o size (int_of (is_signed width) size v) (int_of (is_signed width) size w)
 by_shape env at o size truth v w = wholes_by at o size (int_of false size v) (int_of false size w)
 by_shape env at o size text v w = texts_by at o v w
 by_shape env at o size raw v w = addresses_by at o v w
@@ -206,8 +207,13 @@ union_bytes offset variant v = v ++ zeros (offset - length v) ++ int_bytes 8 (po
 abbrev pub injected : Env → ℕ → ℕ → Value → Value
 injected env t variant v = union_bytes (tag_offset (shape_of env t)) variant v
 
+-- the value is moved to its place, the bytes between it and the tag are zeroed, and the tag is moved
+abbrev pub put_in : Env → ℕ → ℕ → Value → Do Value
+put_in env t variant v =
+    spend (moved (length v) + moved (tag_offset (shape_of env t) - length v) + 1) >>> pure (injected env t variant v)
+
 abbrev pub run_inject : Env → ℕ → ℕ → Do Value → Do Base
-run_inject env t variant m = m >>= (λ v. pure (is (injected env t variant v)))
+run_inject env t variant m = gives (m >>= put_in env t variant)
 
 abbrev pub tag_of : Env → Place → ℕ → Value → Do ℕ
 tag_of env at t v = known at (number_of (piece (tag_offset (shape_of env t)) 8 v))
@@ -216,16 +222,25 @@ tag_of env at t v = known at (number_of (piece (tag_offset (shape_of env t)) 8 v
 abbrev pub held : Env → Place → ℕ → Value → Do Value
 held env at t v = as_read at (shape_of env t) (piece 0 (size_of env t) v)
 
+-- whether a union holds a variant: its tag is compared
+abbrev pub holds : Env → Place → ℕ → ℕ → Value → Do Bool
+holds env at t variant v = tag_of env at t v >>= (λ k. spend 1 >>> pure (k == variant))
+
+abbrev pub asserted : Env → Place → ℕ → Value → Bool → Do Value
+asserted env at t v true = held env at t v
+asserted env at t v false = fail check.Assertion at
+
 abbrev pub run_assert : Env → Place → ℕ → ℕ → ℕ → Do Value → Do Base
-run_assert env at union_ty t variant m =
-    m >>= (λ v. tag_of env at union_ty v >>= (λ k. if k == variant then (held env at t v >>= (λ w. pure (is w))) else fail check.Assertion at))
+run_assert env at union_ty t variant m = gives (m >>= (λ v. holds env at union_ty variant v >>= asserted env at t v))
 
 abbrev pub first_type : Shape → ℕ
 first_type (several (t ∷ ts)) = t
 first_type _ = 0
 
--- a value of two parts
+-- what the union holds, and true; or zeros and false
+abbrev pub tested : Env → Place → ℕ → Value → Bool → Do Value
+tested env at t v true = held env at t v >>= (λ w. pure (w ++ truth_bytes true))
+tested env at t v false = spend (moved (size_of env t)) >>> pure (zeros (size_of env t) ++ truth_bytes false)
+
 abbrev pub run_test : Env → Place → ℕ → ℕ → ℕ → Do Value → Do Base
-run_test env at union_ty t variant m =
-    m >>= (λ v. tag_of env at union_ty v >>= (λ k.
-    if k == variant then (held env at (first_type (shape_of env t)) v >>= (λ w. pure (is (w ++ truth_bytes true)))) else pure (is (zeros (size_of env (first_type (shape_of env t))) ++ truth_bytes false))))
+run_test env at union_ty t variant m = gives (m >>= (λ v. holds env at union_ty variant v >>= tested env at (first_type (shape_of env t)) v))

@@ -2,16 +2,17 @@
 use Rattle.std.specs.Prelude.{ℕ, zero, suc, ◌+◌, ◌*◌, ◌==◌, ◌&&◌, not, Bool, true, int_le, int_lt, if◌then◌else◌, ℤ, pos, negsuc, ◌-ℤ◌, List, [], ◌∷◌, ◌++◌, length, get_or, drop, Option, Some, None}
 use Rattle.odc_text.specs.declared.place.Place.{Place}
 use Rattle.odc_text.specs.declared.check.Check.TheVariants as check
+use Rattle.odc_types.specs.Widths.{is_signed}
 use Rattle.odc_program.specs.declared.ops.Constant.{Constant}
 use Rattle.odc_program.specs.declared.ops.Constant.TheVariants as con
 use Rattle.odc_program.specs.States.Run.{pure, ◌>>=◌, ◌>>>◌, moved}
 use Rattle.odc_program.specs.States.Bytes.{global, literal, Pointer, nil, to, Value, number_of, zeros, int_bytes, int_of, truth_bytes, pointer_bytes, pointer_of, procedure_bytes, piece, patched}
-use Rattle.odc_program.specs.Trees.Program.{Shape, truth, whole, rune, names, text, array, slice, dynamic, soa_array, soa_slice, soa_dynamic, fields}
-use Rattle.odc_program.specs.States.State.{Do, spend, stray, known, fail, read_at, write_to, behind, begin_local, Piece, Spot, spot, in_context, rows, Base, lies, is, views, Context, Env, in_context_of, size_of, shape_of, local_of, block_of}
+use Rattle.odc_program.specs.Trees.Program.{Global, Literal, Shape, truth, whole, rune, names, text, array, slice, dynamic, soa_array, soa_slice, soa_dynamic, fields}
+use Rattle.odc_program.specs.States.State.{Do, spend, stray, known, fail, read_at, write_to, behind, begin_local, Piece, Spot, spot, in_context, rows, Base, lies, is, views, Context, Env, in_context_of, first_context, size_of, shape_of, local_of, block_of}
 use Rattle.odc_program.specs.Kinds.Layouts.{Cell, Column, Layout, layout_of, columns_of, address_bytes}
 
 abbrev pub context_value : Env → Value
-context_value env = elim env.context [ Some v ↦ v | None ↦ env.tables.first ]
+context_value env = elim env.context [ Some v ↦ v | None ↦ first_context env.tables ]
 
 -- ---- reading: a record in columns has zero padding
 abbrev pub patch_with : ℕ → Value → Do Value → Do Value
@@ -75,6 +76,20 @@ spot_of_base at _ = stray at
 abbrev pub as_spot : Place → Do Base → Do Spot
 as_spot at m = m >>= spot_of_base at
 
+-- the columns of an element that is assigned are found with its place
+abbrev pub found_pieces : Place → List Piece → Do (List Piece)
+found_pieces at [] = pure []
+found_pieces at (p ∷ ps) =
+    behind at p.start p.move >>= (λ a. found_pieces at ps >>= (λ qs. pure (record { offset = p.offset; size = p.size; start = a; move = 0 } ∷ qs)))
+
+abbrev pub found : Place → Spot → Do Spot
+found at (spot p) = pure (spot p)
+found at (in_context o) = pure (in_context o)
+found at (rows ps) = found_pieces at ps >>= (λ qs. pure (rows qs))
+
+abbrev pub as_left : Place → Do Base → Do Spot
+as_left at m = as_spot at m >>= found at
+
 abbrev pub gives : Do Value → Do Base
 gives m = m >>= (λ v. pure (is v))
 
@@ -82,8 +97,14 @@ gives m = m >>= (λ v. pure (is v))
 abbrev pub run_local : Env → ℕ → Do Base
 run_local env x = pure (lies (env.storage x))
 
+abbrev pub nowhere : Place
+nowhere = record { file = record { number = 0 }; line = 0; column = 0 }
+
+abbrev pub no_global : Global
+no_global = record { place = nowhere; at = 0; ty = 0; first = [] }
+
 abbrev pub global_at : Env → ℕ → ℕ
-global_at env g = (get_or env.tables.globals g (record { at = 0; ty = 0; first = [] })).at
+global_at env g = (get_or env.tables.globals g no_global).at
 
 abbrev pub run_global : Env → ℕ → Do Base
 run_global env g = pure (lies (spot (to (global (global_at env g) g) 0)))
@@ -97,8 +118,11 @@ procedure_at env need = get_or env.proc.needs need 0
 abbrev pub run_proc_value : Env → ℕ → Do Base
 run_proc_value env need = pure (is (procedure_bytes (procedure_at env need)))
 
+abbrev pub no_literal : Literal
+no_literal = record { place = nowhere; at = 0; bytes = [] }
+
 abbrev pub literal_at : Env → ℕ → ℕ
-literal_at env n = (get_or env.tables.literals n (record { at = 0; bytes = [] })).at
+literal_at env n = (get_or env.tables.literals n no_literal).at
 
 abbrev pub text_bytes : Env → ℕ → ℕ → Value
 text_bytes env n l = pointer_bytes (to (literal (literal_at env n) n) 0) ++ int_bytes 8 (pos l)
@@ -114,11 +138,11 @@ run_const env t c = pure (is (constant_value env t c))
 
 -- a place of the source: file, line, column and the procedure's name
 abbrev pub whole_literal : Env → ℕ → Value
-whole_literal env n = text_bytes env n (length (get_or env.tables.literals n (record { at = 0; bytes = [] })).bytes)
+whole_literal env n = text_bytes env n (length (get_or env.tables.literals n no_literal).bytes)
 
 abbrev pub location_value : Env → Place → Value
 location_value env at =
-    whole_literal env (env.tables.files + at.file.number) ++ int_bytes 4 (pos at.line) ++ int_bytes 4 (pos at.column) ++ whole_literal env env.proc.name
+    whole_literal env (env.tables.files + at.file.number) ++ int_bytes 4 (pos at.line) ++ int_bytes 4 (pos at.column) ++ whole_literal env env.proc.literal
 
 abbrev pub run_location : Env → Place → Do Base
 run_location env at = pure (is (location_value env at))
@@ -209,9 +233,9 @@ abbrev pub elements_of : Env → Place → ℕ → Base → Do Elements
 elements_of env at t b = elements_in env at t (shape_of env t) b
 
 abbrev pub whole_by : Place → ℕ → Shape → Value → Do ℤ
-whole_by at size (whole signed) v = known at (int_of signed size v)
+whole_by at size (whole width) v = known at (int_of (is_signed width) size v)
 whole_by at size rune v = known at (int_of true size v)
-whole_by at size (names signed es) v = known at (int_of signed size v)
+whole_by at size (names width es) v = known at (int_of (is_signed width) size v)
 whole_by at size _ v = stray at
 
 abbrev pub whole_of : Env → Place → ℕ → Value → Do ℤ

@@ -3,6 +3,7 @@ use Rattle.std.specs.Prelude.{ℕ, zero, suc, ◌+◌, ◌/◌, ◌%◌, ◌&&�
 use Rattle.std.specs.Ordering.{int_eq}
 use Rattle.odc_text.specs.declared.place.Place.{Place}
 use Rattle.odc_text.specs.Run.{out}
+use Rattle.odc_types.specs.Widths.{is_signed}
 use Rattle.odc_program.specs.States.Run.{pure, ◌>>=◌, ◌>>>◌}
 use Rattle.odc_program.specs.States.Bytes.{Value, int_of}
 use Rattle.odc_program.specs.Trees.Program.{Enumerator, Shape, truth, whole, rune, names, text}
@@ -55,9 +56,9 @@ print_name (e ∷ es) z = spend 1 >>> (if int_eq e.value z then print e.name els
 
 abbrev pub print_shaped : Place → ℕ → Shape → Value → Do (Unit {0})
 print_shaped at n truth v = read_truth at v >>= (λ b. print (truth_text b))
-print_shaped at n (whole signed) v = known at (int_of signed n v) >>= (λ z. print (int_text z))
+print_shaped at n (whole width) v = known at (int_of (is_signed width) n v) >>= (λ z. print (int_text z))
 print_shaped at n rune v = known at (int_of true n v) >>= (λ z. print (rune_text z))
-print_shaped at n (names signed es) v = known at (int_of signed n v) >>= (λ z. print_name es z)
+print_shaped at n (names width es) v = known at (int_of (is_signed width) n v) >>= (λ z. print_name es z)
 print_shaped at n text v = read_text at v >>= print
 print_shaped at n _ v = stray at
 

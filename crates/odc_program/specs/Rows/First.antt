@@ -44,7 +44,7 @@ defers_in_loop leave = program (main (at_place Int 128 ∷ []) []
     when (is_int (loc Int 0) 2) (st leave ∷ []) ∷
     show (bin Int op.Add 21 (loc Int 0) (num 10) ∷ []) ∷ []))) ∷ []) ∷ [])
 
--- a type switch on a nil union, and an assertion on it: 4, 5 + 1 + 3 + 9, and 7 up to the check
+-- a type switch on a nil union, and an assertion on it: 4, 5 + 2 + 3 + 9, and 8 up to the check
 abbrev pub nil_union : Program
 nil_union = saying (codes "none" ∷ []) (main (at_place Either 128 ∷ at_place Int 160 ∷ at_place Either 176 ∷ []) []
     (zero 0 ∷

@@ -6,7 +6,7 @@ use Rattle.odc_program.specs.declared.ops.Builtin.TheVariants as b
 use Rattle.odc_program.specs.States.Bytes.{zeros}
 use Rattle.odc_program.specs.Trees.Tree as t
 use Rattle.odc_program.specs.Trees.Program.{Head, Helper, Program}
-use Rattle.odc_program.specs.Rows.Writing.{Subtracting, Teller, Failing, Pointing, Truthful, BytePointer, BoolPointer, RecPointer, Bools, BoolsPointer, Raw, lit, Int, Bool_, Text, IntPointer, Either, Plain, Byte_, ByteSlice_, Buffer, Location, Error, Three, Rune, FileAnswer, FileError, IntBool, TextBool, IntProc, IntSlice, Nothing, I32, Rec, at, num, of_type, bool, str, loc, glob, node, args, calls, bin, field, elem, rec_of, context_index, st, block_of, show, let_, zero, set, call, do_, give, at_place, proc, main, types, program, saying, with_all, three, buffer, address_of, telling, glob_of}
+use Rattle.odc_program.specs.Rows.Writing.{path, plain_instance, taken, AllocatorProc, Subtracting, Teller, Failing, Pointing, Truthful, BytePointer, BoolPointer, RecPointer, Bools, BoolsPointer, Raw, lit, Int, Bool_, Text, IntPointer, Either, Plain, Byte_, ByteSlice_, Buffer, Location, Error, Three, Rune, FileAnswer, FileError, IntBool, TextBool, IntProc, IntSlice, Nothing, I32, Rec, at, num, of_type, bool, str, loc, glob, node, args, calls, bin, field, elem, rec_of, context_index, st, block_of, show, let_, zero, set, call, do_, give, at_place, proc, main, types, program, saying, with_all, three, buffer, address_of, telling, glob_of}
 
 -- ---- loops
 abbrev pub ten_twenty_thirty : t.Expr
@@ -57,25 +57,25 @@ spans = program (main [] []
     (t.one_case (t.span (num 1) (num 9) false t.no_items) (block_of (show (num 1 ∷ []) ∷ []))
     (t.one_case (t.span (num 9) (num 9) true t.no_items) (block_of (show (num 2 ∷ []) ∷ [])) t.no_cases))) ∷ []) ∷ [])
 
--- a type switch on a union that holds an integer: 6, 5, 1, 1 and 6
+-- a `#partial` type switch on a union that holds an integer: 9, 5, 2, 1 and 6
 abbrev pub variant : Program
 variant = program (main (at_place Either 128 ∷ at_place Int 160 ∷ []) []
     (let_ 0 (node Either 1 (t.inject 1 (num 5))) ∷
-    st (t.type_switch 3 (loc Either 0) (t.type_case (1 ∷ []) (Some 1) (block_of (show (loc Int 1 ∷ []) ∷ [])) t.no_types)) ∷ []) ∷ [])
+    st (t.type_switch 3 (loc Either 0) (t.default_type None (block_of []) (t.type_case (1 ∷ []) (Some 1) (block_of (show (loc Int 1 ∷ []) ∷ [])) t.no_types))) ∷ []) ∷ [])
 
--- a default that stands before the other cases is taken when none of them is: 6, 5, 1 and 5
+-- a default that stands before the other cases is taken when none of them is: 9, 5, 2 and 5
 abbrev pub default_first : Program
 default_first = program (main (at_place Either 128 ∷ []) []
     (let_ 0 (node Either 1 (t.inject 1 (num 5))) ∷
     st (t.type_switch 3 (loc Either 0) (t.default_type None (block_of (show (num 9 ∷ []) ∷ [])) (t.type_case (2 ∷ []) None (block_of (show (num 2 ∷ []) ∷ [])) t.no_types))) ∷ []) ∷ [])
 
--- `v, ok := u.(int)` and `s, ok := u.(string)`: 6, 8, 13, 9 and 14
+-- `v, ok := u.(int)` and `s, ok := u.(string)`: 9, 9, 13, 12 and 14
 abbrev pub tested : Program
 tested = program (main (at_place Either 128 ∷ at_place Int 160 ∷ at_place Bool_ 176 ∷ at_place Text 192 ∷ at_place Bool_ 216 ∷ []) []
     (let_ 0 (node Either 1 (t.inject 1 (num 7))) ∷
-    st (t.declare (Some 1 ∷ Some 2 ∷ []) (t.parted (record { from = Int; into = Int; variant = None } ∷ record { from = Bool_; into = Bool_; variant = None } ∷ []) (node IntBool 1 (t.test_ 1 (loc Either 0))))) ∷
+    st (t.declare (Some 1 ∷ Some 2 ∷ []) (t.parted (taken Int ∷ taken Bool_ ∷ []) (node IntBool 1 (t.test_ 1 (loc Either 0))))) ∷
     show (loc Int 1 ∷ loc Bool_ 2 ∷ []) ∷
-    st (t.declare (Some 3 ∷ Some 4 ∷ []) (t.parted (record { from = Text; into = Text; variant = None } ∷ record { from = Bool_; into = Bool_; variant = None } ∷ []) (node TextBool 1 (t.test_ 2 (loc Either 0))))) ∷
+    st (t.declare (Some 3 ∷ Some 4 ∷ []) (t.parted (taken Text ∷ taken Bool_ ∷ []) (node TextBool 1 (t.test_ 2 (loc Either 0))))) ∷
     show (loc Text 3 ∷ loc Bool_ 4 ∷ []) ∷ []) ∷ [])
 
 -- ---- calls
@@ -113,7 +113,7 @@ sides = program (
 
 -- `s[f()]`, where f changes s: its header is read behind the call: 4, 13, 2, 1 and 3
 abbrev pub header_later : Program
-header_later = with_all (three ∷ glob_of IntSlice (zeros 16) ∷ []) [] (zeros 48) (
+header_later = with_all (three ∷ glob_of IntSlice (zeros 16) ∷ []) [] None (
     main [] (1 ∷ []) (show (elem Int 38 (glob IntSlice 1) (call Int 0 []) ∷ []) ∷ []) ∷
     proc Teller 0 1 (at_place Int 128 ∷ []) [] (
     set (glob IntSlice 1) (node IntSlice 39 (t.cut (glob Three 0) t.absent t.absent)) ∷ give (num 2 ∷ []) ∷ []) ∷ [])
@@ -121,13 +121,13 @@ header_later = with_all (three ∷ glob_of IntSlice (zeros 16) ∷ []) [] (zeros
 -- endless recursion with frames of 16 MiB stops in the eighth call
 abbrev pub deep : Program
 deep = record {
-  tables = record { types = types; globals = []; literals = lit (codes "main") ∷ []; procedures = head 4096 3 ∷ head 16777216 6 ∷ []; first = zeros 48; files = 0; allocator = 0 };
+  tables = record { types = types; globals = []; literals = lit path ∷ lit (codes "f") ∷ []; procedures = head 0 4096 3 ∷ head 1 16777216 6 ∷ []; paths = path ∷ []; files = 0; heap = None; temp = None; allocator = AllocatorProc };
   bodies = body ∷ body ∷ [];
   main = 0;
 }
   where
-    head : ℕ → ℕ → Head
-    head frame n = record { at = at n; name = 0; has_context = true; ty = Plain; parameters = 0; results = 0; locals = []; frame = frame; needs = 1 ∷ [] }
+    head : ℕ → ℕ → ℕ → Head
+    head i frame n = record { instance = plain_instance i; name = codes "main.f"; at = at n; literal = 1; has_context = true; ty = Plain; parameters = 0; results = 0; locals = []; frame = frame; needs = 1 ∷ [] }
 
     body : Rattle.odc_program.specs.Trees.Program.Body
     body = record { stmts = block_of (do_ (call Nothing 0 []) ∷ []); helpers = [] }
@@ -153,14 +153,14 @@ left_early = program (
 -- ---- helpers take no turns
 abbrev pub with_helper : Helper → List t.Stmt → Program
 with_helper h body = record {
-  tables = record { types = types; globals = []; literals = lit (codes "main") ∷ []; procedures = record { at = at 9; name = 0; has_context = true; ty = Plain; parameters = 0; results = 0; locals = []; frame = 4096; needs = [] } ∷ []; first = zeros 48; files = 0; allocator = 0 };
+  tables = record { types = types; globals = []; literals = lit path ∷ lit (codes "f") ∷ []; procedures = record { instance = plain_instance 0; name = codes "main.f"; at = at 9; literal = 1; has_context = true; ty = Plain; parameters = 0; results = 0; locals = []; frame = 4096; needs = [] } ∷ []; paths = path ∷ []; files = 0; heap = None; temp = None; allocator = AllocatorProc };
   bodies = record { stmts = block_of body; helpers = h ∷ [] } ∷ [];
   main = 0;
 }
 
 abbrev pub helper : List t.Stmt → Helper
 helper body = record {
-  head = record { at = at 9; name = 0; has_context = false; ty = Plain; parameters = 1; results = 0; locals = at_place Int 0 ∷ at_place Int 16 ∷ []; frame = 160; needs = [] };
+  head = record { instance = plain_instance 0; name = codes "main.f"; at = at 9; literal = 1; has_context = false; ty = Plain; parameters = 1; results = 0; locals = at_place Int 0 ∷ at_place Int 16 ∷ []; frame = 160; needs = [] };
   body = block_of body;
 }
 
@@ -224,7 +224,7 @@ padded = program (main (at_place Rec 128 ∷ at_place IntPointer 152 ∷ []) []
 
 -- the line of a location: 2, 2 and 2
 abbrev pub located : Program
-located = saying (codes "main.odin" ∷ []) (main [] [] (show (field I32 (node Location 7 t.location) 1 ∷ []) ∷ []) ∷ [])
+located = program (main [] [] (show (field I32 (node Location 7 t.location) 1 ∷ []) ∷ []) ∷ [])
 
 -- `print(1, true)` ends no line: 2, 2 and 6
 abbrev pub prints : Program
@@ -249,12 +249,12 @@ part_of_buffer n = node ByteSlice_ 30 (t.cut (glob Buffer 0) (t.present (num 0))
 
 -- `os.write(2, buf[0:2])` goes to the second descriptor: 7, 1 and 2
 abbrev pub complains : Program
-complains = with_all (buffer ∷ []) [] (zeros 48) (main [] [] (do_ (calls FileAnswer b.Write 20 (num 2 ∷ part_of_buffer (num 2) ∷ [])) ∷ []) ∷ [])
+complains = with_all (buffer ∷ []) [] None (main [] [] (do_ (calls FileAnswer b.Write 20 (num 2 ∷ part_of_buffer (num 2) ∷ [])) ∷ []) ∷ [])
 
 -- `n, e := os.read(0, buf[0:4]); os.write(1, buf[0:n]); println(n)`: 10, 11 and 6
 abbrev pub copies_input : Program
-copies_input = with_all (buffer ∷ []) [] (zeros 48) (main (at_place Int 128 ∷ at_place FileError 144 ∷ []) []
-    (st (t.declare (Some 0 ∷ Some 1 ∷ []) (t.parted (record { from = Int; into = Int; variant = None } ∷ record { from = FileError; into = FileError; variant = None } ∷ []) (calls FileAnswer b.Read 20 (num 0 ∷ part_of_buffer (num 4) ∷ [])))) ∷
+copies_input = with_all (buffer ∷ []) [] None (main (at_place Int 128 ∷ at_place FileError 144 ∷ []) []
+    (st (t.declare (Some 0 ∷ Some 1 ∷ []) (t.parted (taken Int ∷ taken FileError ∷ []) (calls FileAnswer b.Read 20 (num 0 ∷ part_of_buffer (num 4) ∷ [])))) ∷
     do_ (calls FileAnswer b.Write 21 (num 1 ∷ part_of_buffer (loc Int 0) ∷ [])) ∷ show (loc Int 0 ∷ []) ∷ []) ∷ [])
 
 -- a variable is read through its address behind its procedure: 13, 5 and 6

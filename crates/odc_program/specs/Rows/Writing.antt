@@ -1,24 +1,36 @@
 -- Words to write small programs in, for closed runs.
-use Rattle.std.specs.Prelude.{ℕ, ◌*◌, ◌++◌, ℤ, pos, Bool, true, false, List, [], ◌∷◌, Some, None, codes}
+use Rattle.std.specs.Prelude.{ℕ, ◌+◌, ◌*◌, ◌++◌, ℤ, pos, Bool, true, false, List, [], ◌∷◌, length, Option, Some, None, codes}
 use Rattle.odc_text.specs.declared.place.Place.{Place}
+use Rattle.odc_types.specs.declared.width.Width.TheVariants as width
 use Rattle.odc_program.specs.declared.ops.Constant.TheVariants as con
 use Rattle.odc_program.specs.declared.ops.BinaryOp.{BinaryOp}
 use Rattle.odc_program.specs.declared.ops.Builtin.{Builtin}
+use Rattle.odc_program.specs.declared.ops.Taken.{Taken}
 use Rattle.odc_program.specs.declared.ops.Builtin.TheVariants.{Println}
 use Rattle.odc_program.specs.States.Bytes.{Value, zeros, int_bytes}
 use Rattle.odc_program.specs.Trees.Tree as t
-use Rattle.odc_program.specs.Trees.Program.{Part, Enumerator, Shape, truth, whole, rune, text, raw, address, array, slice, dynamic, soa_array, soa_slice, soa_dynamic, fields, variants, names, procedure, several, Ty, Local, Head, Global, Literal, Body, Program}
+use Rattle.odc_program.specs.Trees.Program.{Part, Enumerator, Shape, truth, whole, rune, text, raw, address, array, slice, dynamic, soa_array, soa_slice, soa_dynamic, fields, variants, names, procedure, several, Name, Ty, Local, Instance, Head, Global, Literal, Body, Program}
 
 -- a place in column n of the only file's fourth line
 abbrev pub at : ℕ → Place
 at n = record { file = record { number = 0 }; line = 4; column = n }
 
 -- ---- the types that the programs use
+abbrev pub entry : ℕ → ℕ → ℕ → Shape → Ty
+entry size align base shape = record { size = size; align = align; base = base; name = None; shape = shape }
+
 abbrev pub one : ℕ → ℕ → Shape → Ty
-one size base shape = record { size = size; align = size; base = base; shape = shape }
+one size base shape = entry size size base shape
 
 abbrev pub words : ℕ → ℕ → Shape → Ty
-words n base shape = record { size = 8 * n; align = 8; base = base; shape = shape }
+words n base shape = entry (8 * n) 8 base shape
+
+-- a row whose type has a name, in column n of the file's second line
+abbrev pub name_at : ℕ → Name
+name_at n = record { at = record { file = record { number = 0 }; line = 2; column = n }; types = []; numbers = [] }
+
+abbrev pub with_name : ℕ → Ty → Ty
+with_name n r = record r { name = Some (name_at n) }
 
 abbrev pub field_at : ℕ → ℕ → Part
 field_at offset ty = record { offset = offset; ty = ty }
@@ -199,29 +211,33 @@ BoolsPointer = 51
 abbrev pub Subtracting : ℕ
 Subtracting = 52
 
+-- a pointer to a procedure value
+abbrev pub ToIntProc : ℕ
+ToIntProc = 53
+
 abbrev pub types : List Ty
 types =
-    one 8 Int (whole true) ∷
+    one 8 Int (whole width.Int) ∷
     one 1 Bool_ truth ∷
     words 2 Text text ∷
     words 1 IntPointer (address Int) ∷
-    words 3 Either (variants 16 (Int ∷ Text ∷ [])) ∷
+    with_name Either (words 3 Either (variants 16 (Int ∷ Text ∷ []))) ∷
     words 1 Plain (procedure true [] []) ∷
-    words 6 ContextType (fields (field_at 0 Allocator ∷ field_at 16 Allocator ∷ field_at 32 Raw ∷ field_at 40 Int ∷ [])) ∷
+    with_name ContextType (words 6 ContextType (fields (field_at 0 Allocator ∷ field_at 16 Allocator ∷ field_at 32 Raw ∷ field_at 40 Int ∷ []))) ∷
     words 5 IntArray (dynamic Int) ∷
     words 2 ByteSlice_ (slice Byte_) ∷
-    one 1 Byte_ (whole false) ∷
-    record { size = 17; align = 8; base = Answered; shape = several (ByteSlice_ ∷ Error ∷ []) } ∷
-    record { size = 256; align = 1; base = Buffer; shape = array Byte_ 256 } ∷
-    words 5 Location (fields (field_at 0 Text ∷ field_at 16 I32 ∷ field_at 20 I32 ∷ field_at 24 Text ∷ [])) ∷
-    words 2 Allocator (fields (field_at 0 AllocatorProc ∷ field_at 8 Raw ∷ [])) ∷
-    record { size = 9; align = 8; base = IntError; shape = several (Int ∷ Error ∷ []) } ∷
-    one 1 Error (names false (named 0 (codes "None") ∷ named 1 (codes "Out_Of_Memory") ∷ named 2 (codes "Invalid_Pointer") ∷ named 3 (codes "Invalid_Argument") ∷ named 4 (codes "Mode_Not_Implemented") ∷ [])) ∷
+    one 1 Byte_ (whole width.U8) ∷
+    entry 17 8 Answered (several (ByteSlice_ ∷ Error ∷ [])) ∷
+    entry 256 1 Buffer (array Byte_ 256) ∷
+    with_name Location (words 5 Location (fields (field_at 0 Text ∷ field_at 16 I32 ∷ field_at 20 I32 ∷ field_at 24 Text ∷ []))) ∷
+    with_name Allocator (words 2 Allocator (fields (field_at 0 AllocatorProc ∷ field_at 8 Raw ∷ []))) ∷
+    entry 9 8 IntError (several (Int ∷ Error ∷ [])) ∷
+    with_name Error (one 1 Error (names width.U8 (named 0 (codes "None") ∷ named 1 (codes "Out_Of_Memory") ∷ named 2 (codes "Invalid_Pointer") ∷ named 3 (codes "Invalid_Argument") ∷ named 4 (codes "Mode_Not_Implemented") ∷ []))) ∷
     words 3 Three (array Int 3) ∷
-    one 1 I8 (whole true) ∷
-    one 8 I64 (whole true) ∷
+    one 1 I8 (whole width.I8) ∷
+    one 8 I64 (whole width.I64) ∷
     words 1 Raw raw ∷
-    words 2 Rec (fields (field_at 0 Byte_ ∷ field_at 8 I64 ∷ [])) ∷
+    with_name Rec (words 2 Rec (fields (field_at 0 Byte_ ∷ field_at 8 I64 ∷ []))) ∷
     words 4 SoaThree (soa_array Rec 3) ∷
     words 6 SoaArray (soa_dynamic Rec) ∷
     words 3 SoaSlice (soa_slice Rec) ∷
@@ -231,18 +247,18 @@ types =
     words 0 Nothing (several []) ∷
     words 1 ToIntArray (address IntArray) ∷
     words 1 ToSoaArray (address SoaArray) ∷
-    one 8 U64 (whole false) ∷
+    one 8 U64 (whole width.U64) ∷
     words 2 FileAnswer (several (Int ∷ FileError ∷ [])) ∷
-    one 8 FileError (names true (named 0 (codes "None") ∷ named 1 (codes "Invalid_File") ∷ [])) ∷
+    with_name FileError (one 8 FileError (names width.Int (named 0 (codes "None") ∷ named 1 (codes "Invalid_File") ∷ []))) ∷
     words 3 IntColumn (array I64 3) ∷
-    record { size = 17; align = 8; base = SliceError; shape = several (IntSlice ∷ Error ∷ []) } ∷
-    record { size = 9; align = 8; base = IntBool; shape = several (Int ∷ Bool_ ∷ []) } ∷
-    one 8 Int (whole true) ∷
-    record { size = 9; align = 8; base = PointerError; shape = several (IntPointer ∷ Error ∷ []) } ∷
+    entry 17 8 SliceError (several (IntSlice ∷ Error ∷ [])) ∷
+    entry 9 8 IntBool (several (Int ∷ Bool_ ∷ [])) ∷
+    with_name Own (one 8 Int (whole width.Int)) ∷
+    entry 9 8 PointerError (several (IntPointer ∷ Error ∷ [])) ∷
     words 9 EitherArray (array Either 3) ∷
     words 1 IntProc (procedure true (Int ∷ []) (Int ∷ [])) ∷
-    record { size = 17; align = 8; base = TextBool; shape = several (Text ∷ Bool_ ∷ []) } ∷
-    one 4 I32 (whole true) ∷
+    entry 17 8 TextBool (several (Text ∷ Bool_ ∷ [])) ∷
+    one 4 I32 (whole width.I32) ∷
     words 1 Teller (procedure true [] (Int ∷ [])) ∷
     words 1 Failing (procedure true [] (Error ∷ [])) ∷
     words 1 Pointing (procedure true [] (IntPointer ∷ [])) ∷
@@ -254,6 +270,7 @@ types =
     one 1 Bools (array Bool_ 1) ∷
     words 1 BoolsPointer (address Bools) ∷
     words 1 Subtracting (procedure true (Int ∷ Int ∷ []) (Int ∷ [])) ∷
+    words 1 ToIntProc (address IntProc) ∷
     []
 
 -- ---- nodes; a constant and a name stand in column 1, others where they say
@@ -306,6 +323,14 @@ rec_of a b = node Rec 1 (t.build None (t.part 0 (of_type Byte_ (pos a)) (t.part 
 abbrev pub context_index : t.Expr
 context_index = field Int (node ContextType 1 t.context) 3
 
+-- a part of a value of several as it is taken
+abbrev pub taken : ℕ → Taken
+taken t = record { from = record { index = t }; into = record { index = t }; variant = None }
+
+-- one that becomes a variant of a union
+abbrev pub taken_as : ℕ → ℕ → ℕ → Taken
+taken_as t u variant = record { from = record { index = t }; into = record { index = u }; variant = Some variant }
+
 -- ---- statements, each in column 3
 abbrev pub st : t.Form → t.Stmt
 st k = t.stmt (at 3) k
@@ -342,6 +367,9 @@ when e body = st (t.if_ t.no_stmt e (block_of body) t.finish)
 abbrev pub at_place : ℕ → ℕ → Local
 at_place ty place = record { ty = ty; place = place }
 
+abbrev pub plain_instance : ℕ → Instance
+plain_instance n = record { proc = n; types = []; numbers = [] }
+
 pub record Proc : Type 0 where
   pub head : Head
   pub body : Body
@@ -349,16 +377,17 @@ pub record Proc : Type 0 where
 -- a procedure of this type with so many parameters and results
 abbrev pub proc : ℕ → ℕ → ℕ → List Local → List ℕ → List t.Stmt → Proc
 proc ty ps rs locals needs body = record {
-  head = record { at = at 9; name = 0; has_context = true; ty = ty; parameters = ps; results = rs; locals = locals; frame = 4096; needs = needs };
+  head = record { instance = plain_instance 0; name = codes "main.f"; at = at 9; literal = 0; has_context = true; ty = ty; parameters = ps; results = rs; locals = locals; frame = 4096; needs = needs };
   body = record { stmts = block_of body; helpers = [] };
 }
 
 abbrev pub main : List Local → List ℕ → List t.Stmt → Proc
 main locals needs body = proc Plain 0 0 locals needs body
 
-abbrev pub heads : List Proc → List Head
-heads [] = []
-heads (p ∷ ps) = p.head ∷ heads ps
+-- each is an instance of its own
+abbrev pub heads_from : ℕ → ℕ → List Proc → List Head
+heads_from n literal [] = []
+heads_from n literal (p ∷ ps) = record p.head { instance = plain_instance n; literal = literal } ∷ heads_from (n + 1) literal ps
 
 abbrev pub bodies : List Proc → List Body
 bodies [] = []
@@ -366,14 +395,19 @@ bodies (p ∷ ps) = p.body ∷ bodies ps
 
 -- a literal; the first one's bytes stand at the end of the globals, here at one address for all
 abbrev pub lit : List ℕ → Literal
-lit bytes = record { at = 1342177280; bytes = bytes }
+lit bytes = record { place = at 1; at = 1342177280; bytes = bytes }
 
 abbrev pub glob_of : ℕ → Value → Global
-glob_of ty v = record { at = 1342177280; ty = ty; first = v }
+glob_of ty v = record { place = at 1; at = 1342177280; ty = ty; first = v }
 
-abbrev pub with_all : List Global → List Literal → Value → List Proc → Program
-with_all gs ls first ps = record {
-  tables = record { types = types; globals = gs; literals = ls ++ (lit (codes "main") ∷ []); procedures = heads ps; first = first; files = 0; allocator = AllocatorProc };
+-- behind the literals of the program stand the path of its file and the name of its procedures
+abbrev pub path : List ℕ
+path = codes "main.odin"
+
+-- globals, literals, and the procedure that the first context has as its allocator
+abbrev pub with_all : List Global → List Literal → Option ℕ → List Proc → Program
+with_all gs ls heap ps = record {
+  tables = record { types = types; globals = gs; literals = ls ++ (lit path ∷ lit (codes "f") ∷ []); procedures = heads_from 0 (length ls + 1) ps; paths = path ∷ []; files = length ls; heap = heap; temp = None; allocator = AllocatorProc };
   bodies = bodies ps;
   main = 0;
 }
@@ -384,10 +418,10 @@ with_texts (s ∷ ss) = lit s ∷ with_texts ss
 
 -- a program of these procedures, without globals and texts, whose context is zero
 abbrev pub program : List Proc → Program
-program ps = with_all [] [] (zeros 48) ps
+program ps = with_all [] [] None ps
 
 abbrev pub saying : List (List ℕ) → List Proc → Program
-saying texts ps = with_all [] (with_texts texts) (zeros 48) ps
+saying texts ps = with_all [] (with_texts texts) None ps
 
 -- a global of three integers, and one of 256 bytes
 abbrev pub three : Global
@@ -404,6 +438,11 @@ allocator_locals = at_place Raw 128 ∷ at_place Byte_ 144 ∷ at_place Int 160 
 abbrev pub allocator_of : ℕ → Proc
 allocator_of g = proc AllocatorProc 7 2 allocator_locals []
     (give (node ByteSlice_ 40 (t.cut (glob Buffer g) (t.present (num 0)) (t.present (loc Int 2))) ∷ of_type Error (pos 0) ∷ []) ∷ [])
+
+-- one that answers a byte less than it is asked for: a call costs 28
+abbrev pub short_of : ℕ → Proc
+short_of g = proc AllocatorProc 7 2 allocator_locals []
+    (give (node ByteSlice_ 40 (t.cut (glob Buffer g) (t.present (num 1)) (t.present (loc Int 2))) ∷ of_type Error (pos 0) ∷ []) ∷ [])
 
 -- one that has no memory: a call costs 24
 abbrev pub refuser : Proc

@@ -8,8 +8,8 @@ use Rattle.odc_program.specs.States.Bytes.{global, literal, Pointer, Value, numb
 use Rattle.odc_program.specs.States.Memory.{Memory, empty, open_block, open_zeros}
 use Rattle.odc_program.specs.Trees.Tree.{Maybe, absent, present, Lefts, no_lefts, left_, dropped, Rights, each, parted, nothing, Items, no_items, item, span, Over, from_to, through, Stmt, stmt, Form, declare, assign, change, eval, block, if_, loop, range, switch, type_switch, defer, return, break_, continue_, fallthrough, counted, MaybeStmt, no_stmt, some_stmt, Stmts, finish, follow, Cases, no_cases, one_case, default_case, TypeCases, no_types, type_case, default_type, ty, at_of}
 use Rattle.odc_program.specs.Trees.Program.{Global, Literal, Head, Tables, Helper, Body, Program, array, slice, dynamic, soa_array, soa_slice, soa_dynamic, Shape}
-use Rattle.odc_program.specs.States.State.{State, Leave, ends, back, Do, turn, next_serial, close_all, close_behind, fail, Spot, Context, Env, in_context_of, Calls, own_storage, begin_local, size_of, shape_of, local_of}
-use Rattle.odc_program.specs.Kinds.Places.{as_spot, as_read, read_truth, read_spot}
+use Rattle.odc_program.specs.States.State.{State, Leave, ends, back, Do, turn, next_serial, close_all, close_behind, fail, Spot, Context, Env, in_context_of, Calls, first_context, own_storage, begin_local, size_of, shape_of, local_of}
+use Rattle.odc_program.specs.Kinds.Places.{as_spot, as_left, as_read, read_truth, read_spot}
 use Rattle.odc_program.specs.Kinds.Calling.{taken_parts}
 use Rattle.odc_program.specs.Kinds.Builtins.{heap_block, heap_size, temp_block, temp_size}
 use Rattle.odc_program.specs.Kinds.Expressions.{base_of, value_of, values_of, truth_of}
@@ -18,12 +18,12 @@ use Rattle.odc_program.specs.Runs.Statements.{falls, breaks, continues, passes, 
 -- ---- what statements ask of expressions
 abbrev pub rights_of : Calls → Env → Rights → Do (List Value)
 rights_of calls env (each es) = values_of calls env es
-rights_of calls env (parted ts e) = value_of calls env e >>= (λ v. pure (taken_parts env ts v))
+rights_of calls env (parted ts e) = value_of calls env e >>= taken_parts env ts
 rights_of calls env nothing = pure []
 
 abbrev pub places_of : Calls → Env → Lefts → Do (List (Option Spot))
 places_of calls env no_lefts = pure []
-places_of calls env (left_ e es) = as_spot (at_of e) (base_of calls env e) >>= (λ s. places_of calls env es >>= (λ ss. pure (Some s ∷ ss)))
+places_of calls env (left_ e es) = as_left (at_of e) (base_of calls env e) >>= (λ s. places_of calls env es >>= (λ ss. pure (Some s ∷ ss)))
 places_of calls env (dropped es) = places_of calls env es >>= (λ ss. pure (None ∷ ss))
 
 abbrev pub condition_of : Calls → Env → Maybe → Do Bool
@@ -62,7 +62,7 @@ element_type _ = 0
 abbrev pub run_over : Calls → Env → Place → ℕ → Over → Option ℕ → Option ℕ → (Env → Part) → Part
 run_over calls env at l (from_to e f closed) x y body c = run_span env at (ty e) l x y closed (value_of calls (in_context_of env c) e) (value_of calls (in_context_of env c) f) body c
 run_over calls env at l (through e by_place) x y body c =
-    run_through env at (ty e) (element_type (shape_of env (ty e))) l x y by_place (base_of calls (in_context_of env c) e) body c
+    run_through env at (at_of e) (ty e) (element_type (shape_of env (ty e))) l x y by_place (base_of calls (in_context_of env c) e) body c
 
 -- ---- statements; n bounds the turns of each loop
 abbrev mutual
@@ -223,7 +223,7 @@ first_state p input bound = record { memory = first_memory p; log = []; input = 
 
 -- `main`, from any state
 abbrev pub main_run : Program → ℕ → Do Value
-main_run p n = enter n (calls_of p n) p.tables p.main (slice_get p.tables.procedures p.main) (slice_get p.bodies p.main) [] (Some p.tables.first) stack_end
+main_run p n = enter n (calls_of p n) p.tables p.main (slice_get p.tables.procedures p.main) (slice_get p.bodies p.main) [] (Some (first_context p.tables)) stack_end
 
 abbrev pub ending_at : End → State → Ending Pointer ℕ
 ending_at end s = record { end = end; log = s.log; taken = s.taken; cost = s.cost }

@@ -166,9 +166,10 @@ abbrev pub element_read : Env → Place → Bool → ℕ → Base → Do Base
 element_read env at true e b = pure b
 element_read env at false e b = gives (value_in env at e b)
 
-abbrev pub run_through : Env → Place → ℕ → ℕ → ℕ → Option ℕ → Option ℕ → Bool → Do Base → (Env → Part) → Part
-run_through env at t e l x y by_place container body c =
-    container >>= (λ b. elements_of env at t b >>= (λ es.
+-- the header is read at the container's place
+abbrev pub run_through : Env → (at from : Place) → ℕ → ℕ → ℕ → Option ℕ → Option ℕ → Bool → Do Base → (Env → Part) → Part
+run_through env at from t e l x y by_place container body c =
+    container >>= (λ b. elements_of env from t b >>= (λ es.
     each_turn l (natural es.count) 0 (λ k. element at (pos k) es >>= element_read env at by_place e) (begun env x y body by_place) c))
 
 -- ---- switches: which case is taken, and the bodies from there on
@@ -220,7 +221,7 @@ span_holds env at t closed m n (Some v) = m >>= (λ a. n >>= (λ b. in_span env 
 -- a type switch: the variants of a case, and its body from the union's value
 abbrev pub one_of : ℕ → List ℕ → Do Bool
 one_of k [] = pure false
-one_of k (t ∷ ts) = tried (pure (k == t)) (one_of k ts)
+one_of k (t ∷ ts) = tried (spend 1 >>> pure (k == t)) (one_of k ts)
 
 abbrev pub tag_test : Env → Place → ℕ → List ℕ → Test
 tag_test env at t variants None = pure false

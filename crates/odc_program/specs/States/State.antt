@@ -1,10 +1,10 @@
 -- The state of a source run, what surrounds a node, and the primitives: all that touches the state.
-use Rattle.std.specs.Prelude.{ℕ, zero, suc, ◌+◌, ◌==◌, Bool, true, false, nat_le, if◌then◌else◌, List, [], ◌∷◌, length, take, drop, get_or, min, Option, Some, None}
+use Rattle.std.specs.Prelude.{ℕ, zero, suc, ◌+◌, ◌==◌, Bool, true, false, nat_le, if◌then◌else◌, List, [], ◌∷◌, ◌++◌, length, take, drop, get_or, min, Option, Some, None}
 use Rattle.odc_text.specs.declared.place.Place.{Place}
 use Rattle.odc_text.specs.declared.check.Check.{Check}
 use Rattle.odc_text.specs.Run.{End, checked, strayed, going, Entry}
 use Rattle.odc_program.specs.States.Run.{World, ok, stop, Act, pure, halt, ◌>>>◌, charge, tell, moved}
-use Rattle.odc_program.specs.States.Bytes.{Block, variable, Pointer, nil, to, Value}
+use Rattle.odc_program.specs.States.Bytes.{Block, variable, Pointer, nil, to, Value, zeros, procedure_bytes}
 use Rattle.odc_program.specs.States.Memory.{Memory, load, store, fits, writable, open_block, close, close_from}
 use Rattle.odc_program.specs.Trees.Program.{Shape, fields, Ty, Local, Head, Tables}
 
@@ -169,9 +169,17 @@ pub record Calls : Type 0 where
   pub call : ℕ → Do (Unit {0}) → List Value → Context → ℕ → Do Value
   pub help : ℕ → List Value → Env → Do Value
 
+-- ---- the first context: the value of `default_context`, made without a call
+abbrev pub allocator_value : Option ℕ → Value
+allocator_value None = zeros 16
+allocator_value (Some f) = procedure_bytes f ++ zeros 8
+
+abbrev pub first_context : Tables → Value
+first_context ts = allocator_value ts.heap ++ allocator_value ts.temp ++ zeros 16
+
 -- ---- look-ups
 abbrev pub ty_of : Env → ℕ → Ty
-ty_of env t = get_or env.tables.types t (record { size = 0; align = 1; base = t; shape = fields [] })
+ty_of env t = get_or env.tables.types t (record { size = 0; align = 1; base = t; name = None; shape = fields [] })
 
 abbrev pub size_of : Env → ℕ → ℕ
 size_of env t = (ty_of env t).size

@@ -1,5 +1,6 @@
 -- The programs that typing gives: each node has the type that its rule gives it, and everything that it names is there.
-use Rattle.std.specs.Prelude.{ℕ, zero, suc, ◌+◌, ◌-◌, ◌*◌, ◌==◌, ◌&&◌, ◌||◌, not, Bool, true, false, nat_le, nat_lt, if◌then◌else◌, pos, List, [], ◌∷◌, ◌++◌, length, take, drop, Option, Some, None, slice_get}
+use Rattle.std.specs.Prelude.{ℕ, zero, suc, ◌+◌, ◌-◌, ◌*◌, ◌==◌, ◌&&◌, ◌||◌, not, Bool, true, false, nat_le, nat_lt, int_le, int_lt, if◌then◌else◌, ℤ, pos, List, [], ◌∷◌, ◌++◌, length, take, drop, max, get_or, Option, Some, None, slice_get}
+use Rattle.std.specs.Ordering.{int_eq}
 use Rattle.odc_program.specs.declared.ops.Taken.{Taken}
 use Rattle.odc_program.specs.declared.ops.UnaryOp.{UnaryOp}
 use Rattle.odc_program.specs.declared.ops.UnaryOp.TheVariants as un
@@ -11,14 +12,16 @@ use Rattle.odc_program.specs.declared.ops.Constant.TheVariants as con
 use Rattle.odc_text.specs.declared.place.Place.{Place}
 use Rattle.odc_program.specs.Trees.Tree
 use Rattle.odc_program.specs.Trees.Tree.{Expr, expr, Kind, Exprs, none, more, Maybe, absent, present, Parts, no_parts, part, ty, tys, in_order, Lefts, no_lefts, left_, dropped, Rights, nothing, each, parted, Items, no_items, item, span, Over, from_to, through, Stmt, stmt, Form, MaybeStmt, no_stmt, some_stmt, Stmts, finish, follow, Cases, no_cases, one_case, default_case, TypeCases, no_types, type_case, default_type}
-use Rattle.odc_program.specs.Trees.Program.{Part, Shape, truth, text, array, slice, dynamic, soa_array, soa_slice, soa_dynamic, fields, variants, names, procedure, Local, Head, Tables, Helper, Body, Program}
+use Rattle.odc_program.specs.Trees.Program.{Part, Shape, truth, text, array, slice, dynamic, soa_array, soa_slice, soa_dynamic, fields, variants, names, procedure, Local, Instance, Head, Global, Tables, Helper, Body, Program}
 use Rattle.odc_program.specs.States.State.{Env, size_of, shape_of, base_type, local_of}
 use Rattle.odc_program.specs.Kinds.Layouts.{parts_in}
 use Rattle.odc_program.specs.Kinds.Places.{home_type}
 use Rattle.odc_program.specs.Kinds.Calling.{last_or, before_last}
 use Rattle.odc_program.specs.Kinds.Builtins.{target_of}
 use Rattle.odc_program.specs.Runs.Source.{env_of, env_in}
+use Rattle.odc_program.specs.States.Bytes.{Block, literal, Byte, number, of_address, of_procedure}
 use Rattle.odc_program.specs.Typing.WellTypes
+use Rattle.odc_program.specs.Typing.Gathered.{begun_in, helped_in}
 
 -- ---- what stands as a place: an address, an element in columns, or a part of the context
 pub data Stand : Type 0 where
@@ -123,7 +126,7 @@ but_last (t ∷ ts) = before_last t ts
 
 abbrev pub goes_on_by : Shape → Bool
 goes_on_by truth = true
-goes_on_by (names s es) = true
+goes_on_by (names w es) = true
 goes_on_by s = WellTypes.has_nil s
 
 abbrev pub or_return_type : Env → ℕ → Option ℕ → List ℕ → Bool
@@ -138,7 +141,7 @@ unary_type env _ u t = (u == t) && WellTypes.is_whole (shape_of env t)
 abbrev pub is_alike : Shape → Bool
 is_alike truth = true
 is_alike text = true
-is_alike (names s es) = true
+is_alike (names w es) = true
 is_alike (procedure odin ps rs) = true
 is_alike s = WellTypes.is_whole s || WellTypes.is_pointer s
 
@@ -198,6 +201,15 @@ part_type env (fields ps) d t = is_part_of env d t ps
 part_type env (array e n) d t = (e == t) && is_element_at d (size_of env e) n
 part_type env (soa_array r n) d t = (r == t) && nat_lt d n
 part_type env _ d t = false
+
+-- no two parts of more than no bytes stand at one place
+abbrev pub has_part_at : Env → ℕ → Parts → Bool
+has_part_at env d no_parts = false
+has_part_at env d (part at e ps) = ((d == at) && nat_lt 0 (size_of env (ty e))) || has_part_at env d ps
+
+abbrev pub parts_apart : Env → Parts → Bool
+parts_apart env no_parts = true
+parts_apart env (part d e ps) = (not (nat_lt 0 (size_of env (ty e))) || not (has_part_at env d ps)) && parts_apart env ps
 
 -- a value is built in a local of its own type, a slice over a local that is an array of its elements
 abbrev pub is_home : Env → Shape → ℕ → ℕ → Bool
@@ -282,9 +294,17 @@ builtin_type env b.Free (u ∷ rest) t = WellTypes.is_pointer (shape_of env u) &
 builtin_type env b.FreeAll ts t = at_most_allocator env ts && WellTypes.is_error env t
 builtin_type env _ ts t = false
 
--- ---- what stands round a node: the helpers that it may call, the ways out of its statement, and whether there is a context
+-- ---- what stands round a node: the helpers that it may call, the variables that have begun, the ways out of its
+-- statement, and whether there is a context
 pub record Ways : Type 0 where
   pub helpers : List Head
+  pub begun : List ℕ
+  -- those of them that can't be assigned: parameters, and names of loops and of type switches
+  pub fixed : List ℕ
+  -- and those that are elements of a container in columns
+  pub columns : List ℕ
+  -- of all statements around it
+  pub labels : List ℕ
   pub breaks : List ℕ
   pub continues : List ℕ
   -- in a case of a switch, before another case
@@ -296,10 +316,25 @@ pub record Ways : Type 0 where
   pub context : Bool
 
 abbrev pub breaking : ℕ → Ways → Ways
-breaking l w = record w { breaks = l ∷ w.breaks }
+breaking l w = record w { labels = l ∷ w.labels; breaks = l ∷ w.breaks }
 
 abbrev pub looping : ℕ → Ways → Ways
-looping l w = record w { breaks = l ∷ w.breaks; continues = l ∷ w.continues }
+looping l w = record w { labels = l ∷ w.labels; breaks = l ∷ w.breaks; continues = l ∷ w.continues }
+
+-- a label is none of those around it
+abbrev pub is_new : ℕ → Ways → Bool
+is_new l w = not (WellTypes.has l w.labels)
+
+-- names that begin with a statement or a case
+abbrev pub begins_names : List (Option ℕ) → Ways → Ways
+begins_names [] w = w
+begins_names (None ∷ xs) w = begins_names xs w
+begins_names (Some x ∷ xs) w = begins_names xs (record w { begun = x ∷ w.begun })
+
+-- names that can't be assigned
+abbrev pub begins_fixed : Option ℕ → Ways → Ways
+begins_fixed None w = w
+begins_fixed (Some x) w = record w { begun = x ∷ w.begun; fixed = x ∷ w.fixed }
 
 abbrev pub falling : Bool → Ways → Ways
 falling f w = record w { falls = f }
@@ -314,9 +349,10 @@ begins_context (left_ (expr t at Tree.context) es) = true
 begins_context (left_ e es) = begins_context es
 begins_context (dropped es) = begins_context es
 
--- what stands behind an assignment to the context, in its scope, has one
+-- what stands behind an assignment to the context, in its scope, has one; what stands behind a declaration sees its names
 abbrev pub behind : Stmt → Ways → Ways
 behind (stmt at (Tree.assign lefts values)) w = record w { context = w.context || begins_context lefts }
+behind (stmt at (Tree.declare xs values)) w = begins_names xs w
 behind s w = w
 
 abbrev pub behind_maybe : MaybeStmt → Ways → Ways
@@ -331,8 +367,22 @@ abbrev pub names_allocator : Env → List ℕ → Bool
 names_allocator env [] = false
 names_allocator env (t ∷ ts) = WellTypes.is_allocator env t || names_allocator env ts
 
--- built-in procedures that ask the context for its allocator
+-- built-in procedures that hand their place to an allocator
+abbrev pub hands_place : Builtin → Bool
+hands_place b.New = true
+hands_place b.Make = true
+hands_place b.Append = true
+hands_place b.Reserve = true
+hands_place b.Resize = true
+hands_place b.Delete = true
+hands_place b.Free = true
+hands_place b.FreeAll = true
+hands_place _ = false
+
+-- built-in procedures that need a context: those that print, and those that ask its allocator
 abbrev pub asks_context : Env → Builtin → List ℕ → Bool
+asks_context env b.Print ts = true
+asks_context env b.Println ts = true
 asks_context env b.Append ts = true
 asks_context env b.Reserve ts = true
 asks_context env b.Resize ts = true
@@ -342,6 +392,14 @@ asks_context env b.Free ts = not (names_allocator env ts)
 asks_context env b.FreeAll ts = not (names_allocator env ts)
 asks_context env b.Delete (t ∷ ts) = not (WellTypes.is_dynamic (shape_of env t) || names_allocator env ts)
 asks_context env _ ts = false
+
+abbrev pub numbers_below : ℕ → List ℕ
+numbers_below zero = []
+numbers_below (suc n) = n ∷ numbers_below n
+
+-- a helper prints, and asks no allocator
+abbrev pub can_ask : Ways → Env → Builtin → List ℕ → Bool
+can_ask w env which ts = if w.counts then not (hands_place which) else ((w.context || not (asks_context env which ts)) && (not (hands_place which) || WellTypes.has_allocators env))
 
 -- ---- operands that one type alone doesn't tell
 abbrev pub is_nil : Expr → Bool
@@ -372,26 +430,65 @@ abbrev pub is_order : List ℕ → List ℕ → Bool
 is_order [] ts = true
 is_order order ts = (length order == length ts) && (WellTypes.every (WellTypes.below (length ts)) order && WellTypes.once order)
 
--- the path of a location is there
+-- ---- the path of each node's file is there; where its place is a value, so is the literal of the path
+abbrev pub has_path : Env → Place → Bool
+has_path env at = nat_lt at.file.number (length env.tables.paths)
+
+abbrev pub has_literal : Env → Place → Bool
+has_literal env at =
+    WellTypes.is_there (slice_get env.tables.literals (env.tables.files + at.file.number)) (λ l. WellTypes.is_there (slice_get env.tables.paths at.file.number) (λ p. WellTypes.same_list l.bytes p))
+
 abbrev pub is_located : Env → Place → Kind → Bool
-is_located env at Tree.location = nat_lt (env.tables.files + at.file.number) (length env.tables.literals)
-is_located env at k = true
+is_located env at Tree.location = has_literal env at
+is_located env at (Tree.builtin which order es) = has_path env at && (not (hands_place which) || has_literal env at)
+is_located env at k = has_path env at
+
+-- ---- what can't be assigned: parts of a parameter, or of a name of a loop or a type switch
+abbrev pub lies_in : Shape → Bool → Bool
+lies_in (array e n) f = f
+lies_in (soa_array e n) f = f
+lies_in _ f = false
+
+abbrev mutual
+  pub is_part_of_one : Env → List ℕ → Expr → Bool
+  is_part_of_one env xs (expr t at k) = kind_is_part_of_one env xs k
+
+  pub kind_is_part_of_one : Env → List ℕ → Kind → Bool
+  kind_is_part_of_one env xs (Tree.local x) = WellTypes.has x xs
+  kind_is_part_of_one env xs (Tree.field e n) = is_part_of_one env xs e
+  kind_is_part_of_one env xs (Tree.index e i) = lies_in (shape_of env (ty e)) (is_part_of_one env xs e)
+  kind_is_part_of_one env xs (Tree.column e n) = lies_in (shape_of env (ty e)) (is_part_of_one env xs e)
+  kind_is_part_of_one env xs _ = false
+
+abbrev pub can_change : Ways → Env → Expr → Bool
+can_change w env e = can_be_stored (stands env e) && not (is_part_of_one env w.fixed e)
+
+-- an element of a container in columns has no address
+abbrev pub is_one_of : List ℕ → Expr → Bool
+is_one_of xs (expr t at (Tree.local x)) = WellTypes.has x xs
+is_one_of xs e = false
+
+-- a parameter has no address
+abbrev pub parameters_of : Ways → Env → List ℕ
+parameters_of w env = if w.counts then [] else numbers_below env.proc.parameters
+
+abbrev pub has_address : Ways → Env → Expr → Bool
+has_address w env e = is_somewhere (stands env e) && (not (is_part_of_one env (parameters_of w env) e) && not (is_one_of w.columns e))
 
 -- ---- expressions
+abbrev pub local_types : List Local → List ℕ
+local_types [] = []
+local_types (l ∷ ls) = l.ty ∷ local_types ls
+
 abbrev pub helper_type : Env → List Head → ℕ → List ℕ → ℕ → Bool
 helper_type env hs h ts t = WellTypes.is_there (slice_get hs h) (λ q. WellTypes.same_list ts (local_types (take q.parameters q.locals)) && WellTypes.same_list (WellTypes.values_in env t) (local_types (take q.results (drop q.parameters q.locals))))
-  where
-    local_types : List Local → List ℕ
-    local_types [] = []
-    local_types (l ∷ ls) = l.ty ∷ local_types ls
-
 abbrev mutual
   pub well_expr : Ways → Env → Expr → Bool
   well_expr w env (expr t at k) = nat_lt t (length env.tables.types) && (is_located env at k && well_kind w env t k)
 
   pub well_kind : Ways → Env → ℕ → Kind → Bool
   well_kind w env t (Tree.const c) = WellTypes.well_constant env t c
-  well_kind w env t (Tree.local x) = WellTypes.is_there (slice_get env.proc.locals x) (λ l. l.ty == t)
+  well_kind w env t (Tree.local x) = WellTypes.is_there (slice_get env.proc.locals x) (λ l. l.ty == t) && WellTypes.has x w.begun
   well_kind w env t (Tree.global_ g) = WellTypes.is_there (slice_get env.tables.globals g) (λ x. x.ty == t)
   well_kind w env t (Tree.proc_value n) = need_of env n (λ p. p.ty == t)
   well_kind w env t Tree.context = w.context && WellTypes.is_context env t
@@ -400,18 +497,18 @@ abbrev mutual
   well_kind w env t (Tree.index e i) = WellTypes.is_whole (shape_of env (ty i)) && (index_type env (shape_of env (ty e)) t && (well_expr w env e && well_expr w env i))
   well_kind w env t (Tree.cut e low high) = cut_type env (shape_of env (ty e)) (shape_of env t) && (lies_if_fixed (shape_of env (ty e)) (stands env e) && (well_expr w env e && (well_bound w env low && well_bound w env high)))
   well_kind w env t (Tree.column e n) = column_type env (shape_of env (ty e)) n (shape_of env t) && well_expr w env e
-  well_kind w env t (Tree.call n order es) = need_of env n (λ p. (w.context || not p.has_context) && call_type env (shape_of env p.ty) (in_order 0 order (tys es)) t) && (is_order order (tys es) && well_exprs w env es)
-  well_kind w env t (Tree.call_value marked e es) = (marked || (w.context || not (is_odin (shape_of env (ty e))))) && (call_type env (shape_of env (ty e)) (tys es) t && (well_expr w env e && well_exprs w env es))
-  well_kind w env t (Tree.builtin which order es) = (w.context || not (asks_context env which (tys es))) && (builtin_type env which (in_order 0 order (tys es)) t && (is_order order (tys es) && well_exprs w env es))
+  well_kind w env t (Tree.call n order es) = need_of env n (λ p. not w.counts && ((w.context || not p.has_context) && call_type env (shape_of env p.ty) (in_order 0 order (tys es)) t)) && (is_order order (tys es) && well_exprs w env es)
+  well_kind w env t (Tree.call_value marked e es) = (not w.counts && (if marked then (WellTypes.is_asked env (ty e)) else (w.context || not (is_odin (shape_of env (ty e)))))) && (call_type env (shape_of env (ty e)) (tys es) t && (well_expr w env e && well_exprs w env es))
+  well_kind w env t (Tree.builtin which order es) = can_ask w env which (in_order 0 order (tys es)) && (builtin_type env which (in_order 0 order (tys es)) t && (is_order order (tys es) && well_exprs w env es))
   well_kind w env t (Tree.or_return e variant) = w.returns && (or_return_type env t variant (WellTypes.values_in env (ty e)) && well_expr w env e)
-  well_kind w env t (Tree.build home ps) = build_type env t home && well_parts w env (shape_of env (home_type env t home)) ps
+  well_kind w env t (Tree.build home ps) = build_type env t home && (parts_apart env ps && well_parts w env (shape_of env (home_type env t home)) ps)
   well_kind w env t (Tree.unary o e) = unary_type env o (ty e) t && well_expr w env e
   well_kind w env t (Tree.binary o e f) = binary_type env o (ty e) (ty f) t && (operands env o e f && (well_expr w env e && well_expr w env f))
   well_kind w env t (Tree.convert e) = convert_type env (ty e) t && well_expr w env e
   well_kind w env t (Tree.inject n e) = WellTypes.is_variant env t n (ty e) && well_expr w env e
   well_kind w env t (Tree.assert_ n e) = WellTypes.is_variant env (ty e) n t && well_expr w env e
   well_kind w env t (Tree.test_ n e) = test_type env (ty e) n (WellTypes.values_in env t) && well_expr w env e
-  well_kind w env t (Tree.address_ e) = WellTypes.points_to (ty e) (shape_of env t) && (is_somewhere (stands env e) && well_expr w env e)
+  well_kind w env t (Tree.address_ e) = WellTypes.points_to (ty e) (shape_of env t) && (has_address w env e && well_expr w env e)
   well_kind w env t Tree.location = WellTypes.is_location env t
   well_kind w env t (Tree.help h es) = helper_type env w.helpers h (tys es) t && well_exprs w env es
 
@@ -430,11 +527,11 @@ abbrev mutual
 -- ---- what statements ask of expressions
 abbrev pub taken_types : List Taken → List ℕ
 taken_types [] = []
-taken_types (t ∷ ts) = t.into ∷ taken_types ts
+taken_types (t ∷ ts) = t.into.index ∷ taken_types ts
 
 abbrev pub given_types : List Taken → List ℕ
 given_types [] = []
-given_types (t ∷ ts) = t.from ∷ given_types ts
+given_types (t ∷ ts) = t.from.index ∷ given_types ts
 
 abbrev pub rights_types : Rights → List ℕ
 rights_types nothing = []
@@ -444,7 +541,7 @@ rights_types (parted ts e) = taken_types ts
 abbrev pub well_rights : Ways → Env → Rights → Bool
 well_rights w env nothing = true
 well_rights w env (each es) = well_exprs w env es
-well_rights w env (parted ts e) = WellTypes.same_list (given_types ts) (WellTypes.values_in env (ty e)) && (WellTypes.every (λ t. takes env t.from t.variant t.into) ts && well_expr w env e)
+well_rights w env (parted ts e) = WellTypes.same_list (given_types ts) (WellTypes.values_in env (ty e)) && (WellTypes.every (λ t. takes env t.from.index t.variant t.into.index) ts && well_expr w env e)
 
 abbrev pub is_local : Env → ℕ → ℕ → Bool
 is_local env x t = WellTypes.is_there (slice_get env.proc.locals x) (λ l. l.ty == t)
@@ -465,9 +562,14 @@ declares env xs nothing = begins_zero env xs
 declares env [] values = true
 declares env xs values = begins env xs (rights_types values)
 
+-- a context that is assigned as a whole need not be there before
+abbrev pub well_left : Ways → Env → Expr → Bool
+well_left w env (expr t at Tree.context) = has_path env at && (nat_lt t (length env.tables.types) && WellTypes.is_context env t)
+well_left w env e = can_change w env e && well_expr w env e
+
 abbrev pub well_lefts : Ways → Env → Lefts → List ℕ → Bool
 well_lefts w env no_lefts [] = true
-well_lefts w env (left_ e es) (t ∷ ts) = (ty e == t) && (can_be_stored (stands env e) && (well_expr w env e && well_lefts w env es ts))
+well_lefts w env (left_ e es) (t ∷ ts) = (ty e == t) && (well_left w env e && well_lefts w env es ts)
 well_lefts w env (dropped es) (t ∷ ts) = well_lefts w env es ts
 well_lefts w env _ _ = false
 
@@ -519,16 +621,8 @@ abbrev pub names_case : Env → ℕ → List ℕ → Option ℕ → Bool
 names_case env u vs None = true
 names_case env u vs (Some x) = WellTypes.is_there (slice_get env.proc.locals x) (λ l. case_type env u vs l.ty)
 
-abbrev pub is_union : Shape → Bool
-is_union (variants tag ts) = true
-is_union _ = false
-
 abbrev pub result_types : Env → List ℕ
-result_types env = types_in (take env.proc.results (drop env.proc.parameters env.proc.locals))
-  where
-    types_in : List Local → List ℕ
-    types_in [] = []
-    types_in (l ∷ ls) = l.ty ∷ types_in ls
+result_types env = local_types (take env.proc.results (drop env.proc.parameters env.proc.locals))
 
 abbrev pub returns : Env → Rights → Bool
 returns env nothing = true
@@ -538,32 +632,103 @@ abbrev pub is_followed : Cases → Bool
 is_followed no_cases = false
 is_followed cs = true
 
+-- ---- a switch over an enum or a union covers all its values, or has a default case; `#partial` gives an empty one that
+-- stands before the others
+abbrev pub has_default : Cases → Bool
+has_default no_cases = false
+has_default (one_case is body rest) = has_default rest
+has_default (default_case body rest) = true
+
+abbrev pub constant_in : Expr → Option ℤ
+constant_in (expr t at (Tree.const (con.Int z))) = Some z
+constant_in e = None
+
+abbrev pub is_between : Bool → ℤ → ℤ → ℤ → Bool
+is_between closed low high z = int_le low z && (if closed then int_le z high else int_lt z high)
+
+abbrev pub items_have : ℤ → Items → Bool
+items_have z no_items = false
+items_have z (item e is) = WellTypes.is_there (constant_in e) (λ y. int_eq y z) || items_have z is
+items_have z (span e f closed is) = WellTypes.is_there (constant_in e) (λ low. WellTypes.is_there (constant_in f) (λ high. is_between closed low high z)) || items_have z is
+
+abbrev pub cases_have : ℤ → Cases → Bool
+cases_have z no_cases = false
+cases_have z (one_case is body rest) = items_have z is || cases_have z rest
+cases_have z (default_case body rest) = true
+
+abbrev pub covers_values : Shape → Cases → Bool
+covers_values (names w es) cs = has_default cs || WellTypes.every (λ e. cases_have e.value cs) es
+covers_values _ cs = true
+
+abbrev pub covers : Env → Option ℕ → Cases → Bool
+covers env None cs = true
+covers env (Some t) cs = covers_values (shape_of env t) cs
+
+abbrev pub types_have : ℕ → TypeCases → Bool
+types_have n no_types = false
+types_have n (type_case vs x body rest) = WellTypes.has n vs || types_have n rest
+types_have n (default_type x body rest) = true
+
+abbrev pub has_default_type : TypeCases → Bool
+has_default_type no_types = false
+has_default_type (type_case vs x body rest) = has_default_type rest
+has_default_type (default_type x body rest) = true
+
+-- variants count from 1
+abbrev pub covers_variants : Shape → TypeCases → Bool
+covers_variants (variants tag ts) cs = has_default_type cs || WellTypes.every (λ n. types_have (n + 1) cs) (numbers_below (length ts))
+covers_variants _ cs = false
+
+-- the name of a loop by place is the element itself, and can be assigned
+abbrev pub begins_element : Bool → Option ℕ → Ways → Ways
+begins_element row None w = w
+begins_element true (Some x) w = record w { begun = x ∷ w.begun; columns = x ∷ w.columns }
+begins_element false (Some x) w = record w { begun = x ∷ w.begun }
+
+abbrev pub has_columns : Shape → Bool
+has_columns (soa_array e n) = true
+has_columns (soa_slice e) = true
+has_columns (soa_dynamic e) = true
+has_columns _ = false
+
+abbrev pub begins_turn : Env → Over → Option ℕ → Option ℕ → Ways → Ways
+begins_turn env (through e true) x k w = begins_element (has_columns (shape_of env (ty e))) x (begins_fixed k w)
+begins_turn env over x k w = begins_fixed x (begins_fixed k w)
+
+-- what may stand in a header
+abbrev pub is_simple : Stmt → Bool
+is_simple (stmt at (Tree.declare xs values)) = true
+is_simple (stmt at (Tree.assign lefts values)) = true
+is_simple (stmt at (Tree.change o e f)) = true
+is_simple (stmt at (Tree.eval e)) = true
+is_simple s = false
+
 -- ---- statements
 abbrev mutual
   pub well_stmt : Ways → Env → Stmt → Bool
-  well_stmt w env (stmt at k) = well_form w env k
+  well_stmt w env (stmt at k) = has_path env at && well_form w env k
 
   pub well_form : Ways → Env → Form → Bool
   well_form w env (Tree.declare xs values) = declares env xs values && well_rights w env values
   well_form w env (Tree.assign lefts values) = well_lefts w env lefts (rights_types values) && well_rights w env values
-  well_form w env (Tree.change o e f) = (is_assigning o && (binary_type env o (ty e) (ty f) (ty e) && operands env o e f)) && (can_be_stored (stands env e) && (well_expr w env e && well_expr w env f))
+  well_form w env (Tree.change o e f) = (is_assigning o && (binary_type env o (ty e) (ty f) (ty e) && operands env o e f)) && (can_change w env e && (well_expr w env e && well_expr w env f))
   well_form w env (Tree.eval e) = well_expr w env e
-  well_form w env (Tree.block l body) = well_stmts (breaking l w) env body
+  well_form w env (Tree.block l body) = is_new l w && well_stmts (breaking l w) env body
   well_form w env (Tree.if_ init e body other) = well_maybe w env init && (WellTypes.is_truth (shape_of env (ty e)) && (well_expr (behind_maybe init w) env e && (well_stmts (behind_maybe init w) env body && well_stmts (behind_maybe init w) env other)))
-  well_form w env (Tree.loop l init e post body) = well_maybe w env init && (well_condition (behind_maybe init w) env e && (well_maybe (behind_maybe init w) env post && well_stmts (looping l (behind_maybe init w)) env body))
-  well_form w env (Tree.range l over x k body) = well_over w env over x && (names_int env k && well_stmts (looping l w) env body)
-  well_form w env (Tree.switch l init e cs) = well_maybe w env init && (well_subject (behind_maybe init w) env e && well_cases (breaking l (behind_maybe init w)) env (subject_type e) cs)
-  well_form w env (Tree.type_switch l e cs) = is_union (shape_of env (ty e)) && (well_expr w env e && well_types (falling false (breaking l w)) env (ty e) cs)
+  well_form w env (Tree.loop l init e post body) = is_new l w && (well_maybe w env init && (well_condition (behind_maybe init w) env e && (well_maybe (behind_maybe init w) env post && well_stmts (looping l (behind_maybe init w)) env body)))
+  well_form w env (Tree.range l over x k body) = is_new l w && (well_over w env over x && (names_int env k && well_stmts (looping l (begins_turn env over x k w)) env body))
+  well_form w env (Tree.switch l init e cs) = is_new l w && (well_maybe w env init && (covers env (subject_type e) cs && (well_subject (behind_maybe init w) env e && well_cases (breaking l (behind_maybe init w)) env (subject_type e) cs)))
+  well_form w env (Tree.type_switch l e cs) = is_new l w && (covers_variants (shape_of env (ty e)) cs && (well_expr w env e && well_types (falling false (breaking l w)) env (ty e) cs))
   well_form w env (Tree.defer s) = well_stmt (deferred w) env s
   well_form w env (Tree.return values) = w.returns && (returns env values && well_rights w env values)
   well_form w env (Tree.break_ l) = WellTypes.has l w.breaks
   well_form w env (Tree.continue_ l) = WellTypes.has l w.continues
   well_form w env Tree.fallthrough = w.falls
-  well_form w env (Tree.counted n l e body) = w.counts && (WellTypes.is_truth (shape_of env (ty e)) && (well_expr w env e && well_stmts (looping l w) env body))
+  well_form w env (Tree.counted n l e body) = (w.counts && is_new l w) && (WellTypes.is_truth (shape_of env (ty e)) && (well_expr w env e && well_stmts (looping l w) env body))
 
   pub well_maybe : Ways → Env → MaybeStmt → Bool
   well_maybe w env no_stmt = true
-  well_maybe w env (some_stmt s) = well_stmt w env s
+  well_maybe w env (some_stmt s) = is_simple s && well_stmt w env s
 
   pub well_stmts : Ways → Env → Stmts → Bool
   well_stmts w env finish = true
@@ -572,12 +737,12 @@ abbrev mutual
   pub well_cases : Ways → Env → Option ℕ → Cases → Bool
   well_cases w env u no_cases = true
   well_cases w env u (one_case is body rest) = well_items w env u is && (well_stmts (falling (is_followed rest) w) env body && well_cases w env u rest)
-  well_cases w env u (default_case body rest) = well_stmts (falling (is_followed rest) w) env body && well_cases w env u rest
+  well_cases w env u (default_case body rest) = not (has_default rest) && (well_stmts (falling (is_followed rest) w) env body && well_cases w env u rest)
 
   pub well_types : Ways → Env → ℕ → TypeCases → Bool
   well_types w env u no_types = true
-  well_types w env u (type_case vs x body rest) = names_case env u vs x && (WellTypes.every (λ n. WellTypes.is_there (WellTypes.variant_in (shape_of env u) n) (λ t. true)) vs && (well_stmts w env body && well_types w env u rest))
-  well_types w env u (default_type x body rest) = names_case env u [] x && (well_stmts w env body && well_types w env u rest)
+  well_types w env u (type_case vs x body rest) = names_case env u vs x && (WellTypes.every (λ n. WellTypes.is_there (WellTypes.variant_in (shape_of env u) n) (λ t. true)) vs && (well_stmts (begins_fixed x w) env body && well_types w env u rest))
+  well_types w env u (default_type x body rest) = (names_case env u [] x && not (has_default_type rest)) && (well_stmts (begins_fixed x w) env body && well_types w env u rest)
 
 -- ---- procedures: variables lie in the frame, eight bytes from its ends and from each other
 abbrev pub apart : Env → Local → Local → Bool
@@ -591,21 +756,17 @@ abbrev pub in_frame : Env → ℕ → Local → Bool
 in_frame env frame l = nat_le 8 l.place && nat_le (l.place + size_of env l.ty + 8) frame
 
 abbrev pub types_known : Env → List Local → Bool
-types_known env ls = WellTypes.every (λ l. nat_lt l.ty (length env.tables.types)) ls
+types_known env ls = WellTypes.every (λ l. WellTypes.is_value_type env l.ty) ls
 
 abbrev pub signature : Env → Head → Shape → Bool
 signature env p (procedure odin ps rs) =
-    (if odin then p.has_context else not p.has_context) && ((p.parameters == length ps) && ((p.results == length rs) && WellTypes.same_list (types_in (take (p.parameters + p.results) p.locals)) (ps ++ rs)))
-  where
-    types_in : List Local → List ℕ
-    types_in [] = []
-    types_in (l ∷ ls) = l.ty ∷ types_in ls
+    (if odin then p.has_context else not p.has_context) && ((p.parameters == length ps) && ((p.results == length rs) && WellTypes.same_list (local_types (take (p.parameters + p.results) p.locals)) (ps ++ rs)))
 signature env p _ = false
 
 abbrev pub well_head : Env → Head → Bool
 well_head env p =
     signature env p (shape_of env p.ty) && (types_known env p.locals && (WellTypes.every (in_frame env p.frame) p.locals && (all_apart env p.locals &&
-    (WellTypes.every (WellTypes.below (length env.tables.procedures)) p.needs && (WellTypes.once p.needs && nat_lt p.name (length env.tables.literals))))))
+    (WellTypes.every (WellTypes.below (length env.tables.procedures)) p.needs && (WellTypes.once p.needs && nat_lt p.literal (length env.tables.literals) && (has_path env p.at && WellTypes.known env p.instance.types))))))
 
 abbrev pub heads_of : List Helper → List Head
 heads_of [] = []
@@ -613,32 +774,45 @@ heads_of (h ∷ hs) = h.head ∷ heads_of hs
 
 -- what a helper needs of the caller's frame, behind its 128 bytes
 abbrev pub in_helper : Env → Head → Local → Bool
-in_helper env q l = nat_le (l.place + size_of env l.ty + 128) q.frame
+in_helper env q l = nat_le (l.place + size_of env l.ty + 136) q.frame
 
-abbrev pub helper_bytes : List Helper → ℕ
-helper_bytes [] = 0
-helper_bytes (h ∷ hs) = h.head.frame - 128 + helper_bytes hs
+-- of each helper, with the greatest of those that it calls, which stand behind it
+abbrev pub greatest_of : List ℕ → List ℕ → ℕ
+greatest_of rooms [] = 0
+greatest_of rooms (h ∷ hs) = max (get_or rooms h 0) (greatest_of rooms hs)
 
-abbrev pub in_helpers : List Head → Ways
-in_helpers hs = record { helpers = hs; breaks = []; continues = []; falls = false; returns = true; counts = true; context = false }
+abbrev pub with_room : Helper → List ℕ → List ℕ
+with_room h rooms = (h.head.frame - 128 + greatest_of rooms (helped_in h.body)) ∷ rooms
 
-abbrev pub in_procedure : List Head → Bool → Ways
-in_procedure hs context = record { helpers = hs; breaks = []; continues = []; falls = false; returns = true; counts = false; context = context }
+abbrev pub helper_rooms : List Helper → List ℕ
+helper_rooms [] = []
+helper_rooms (h ∷ hs) = with_room h (helper_rooms hs)
+
+-- parameters and results begin with the call
+abbrev pub in_helper_of : List Head → Head → Ways
+in_helper_of hs p = record { helpers = hs; begun = numbers_below (p.parameters + p.results); fixed = []; columns = []; labels = []; breaks = []; continues = []; falls = false; returns = true; counts = true; context = false }
+
+abbrev pub in_procedure : List Head → Head → Ways
+in_procedure hs p = record { helpers = hs; begun = numbers_below (p.parameters + p.results); fixed = numbers_below p.parameters; columns = []; labels = []; breaks = []; continues = []; falls = false; returns = true; counts = false; context = p.has_context }
 
 -- a procedure with helpers leaves the last 128 bytes of its frame to them
 abbrev pub leaves_room : Env → List Helper → Bool
 leaves_room env [] = true
-leaves_room env (h ∷ hs) = WellTypes.every (λ l. nat_le (l.place + size_of env l.ty + 128) env.proc.frame) env.proc.locals
+leaves_room env (h ∷ hs) = WellTypes.every (λ l. nat_le (l.place + size_of env l.ty + 136) env.proc.frame) env.proc.locals
+
+-- each variable behind the parameters and results begins at one place of the body
+abbrev pub begins_once : Head → Stmts → Bool
+begins_once p body = WellTypes.once (begun_in body) && WellTypes.every (nat_le (p.parameters + p.results)) (begun_in body)
 
 -- a helper sees those behind it
 abbrev pub well_helpers : Env → List Helper → Bool
 well_helpers env [] = true
 well_helpers env (h ∷ hs) =
     (nat_le 128 h.head.frame && (types_known env h.head.locals && (WellTypes.every (in_helper env h.head) h.head.locals && (all_apart env h.head.locals && nat_le (h.head.parameters + h.head.results) (length h.head.locals))))) &&
-    (well_stmts (in_helpers (heads_of hs)) (env_in env h.head) h.body && well_helpers env hs)
+    (begins_once h.head h.body && (well_stmts (in_helper_of (heads_of hs) h.head) (env_in env h.head) h.body && well_helpers env hs))
 
 abbrev pub well_body : Env → Body → Bool
-well_body env body = well_stmts (in_procedure (heads_of body.helpers) env.proc.has_context) env body.stmts && (leaves_room env body.helpers && (well_helpers env body.helpers && nat_le (helper_bytes body.helpers) 128))
+well_body env body = begins_once env.proc body.stmts && (well_stmts (in_procedure (heads_of body.helpers) env.proc) env body.stmts && (leaves_room env body.helpers && (well_helpers env body.helpers && WellTypes.every (λ n. nat_le n 128) (helper_rooms body.helpers))))
 
 abbrev pub well_procedures : Tables → ℕ → List Head → List Body → Bool
 well_procedures tables f [] [] = true
@@ -650,12 +824,50 @@ abbrev pub is_main : Head → Bool
 is_main p = p.has_context && ((p.parameters == 0) && (p.results == 0))
 
 abbrev pub outer_head : Head
-outer_head = record { at = record { file = record { number = 0 }; line = 0; column = 0 }; name = 0; has_context = false; ty = 0; parameters = 0; results = 0; locals = []; frame = 0; needs = [] }
+outer_head = record { instance = record { proc = 0; types = []; numbers = [] }; name = []; at = nowhere_at; literal = 0; has_context = false; ty = 0; parameters = 0; results = 0; locals = []; frame = 0; needs = [] }
+  where
+    nowhere_at : Place
+    nowhere_at = record { file = record { number = 0 }; line = 0; column = 0 }
+
+-- no two procedures are one instance
+abbrev pub same_instance : Instance → Instance → Bool
+same_instance a b = (a.proc == b.proc) && (WellTypes.same_list a.types b.types && WellTypes.same_ints a.numbers b.numbers)
+
+abbrev pub instances_once : List Head → Bool
+instances_once [] = true
+instances_once (p ∷ ps) = WellTypes.every (λ q. not (same_instance p.instance q.instance)) ps && instances_once ps
+
+-- a global starts with numbers and addresses of literals
+abbrev pub is_literal_at : Env → Block → ℕ → Bool
+is_literal_at env (literal at n) o = (o == 0) && WellTypes.is_there (slice_get env.tables.literals n) (λ l. l.at == at)
+is_literal_at env _ o = false
+
+abbrev pub well_byte : Env → Byte → Bool
+well_byte env (number n) = nat_lt n 256
+well_byte env (of_address b o k) = is_literal_at env b o
+well_byte env (of_procedure p k) = false
+
+abbrev pub well_global : Env → Global → Bool
+well_global env g = WellTypes.is_value_type env g.ty && ((length g.first == size_of env g.ty) && (WellTypes.every (well_byte env) g.first && has_path env g.place))
+
+abbrev pub is_allocator_procedure : Env → ℕ → Bool
+is_allocator_procedure env f = WellTypes.is_there (slice_get env.tables.procedures f) (λ p. WellTypes.is_asked env p.ty)
+
+-- the first context's allocators, where they are there
+abbrev pub may_ask : Env → Option ℕ → Bool
+may_ask env None = true
+may_ask env (Some f) = is_allocator_procedure env f
 
 abbrev pub well_tables : Env → Bool
 well_tables env =
-    WellTypes.every (WellTypes.well_row env) env.tables.types && (WellTypes.each_once env.tables.types && (WellTypes.every (λ g. length g.first == size_of env g.ty) env.tables.globals && ((length env.tables.first == 48) && nat_lt env.tables.allocator (length env.tables.types))))
+    WellTypes.well_rows env 0 env.tables.types && (WellTypes.each_once env.tables.types && (WellTypes.every (well_global env) env.tables.globals &&
+    (WellTypes.every (λ l. has_path env l.place) env.tables.literals && (instances_once env.tables.procedures && (may_ask env env.tables.heap && may_ask env env.tables.temp)))))
 
 abbrev pub well : Program → Bool
 well p =
     well_tables (env_of p.tables outer_head 0 0 0 None) && (well_procedures p.tables 0 p.tables.procedures p.bodies && WellTypes.is_there (slice_get p.tables.procedures p.main) is_main)
+
+-- ---- the allocator procedures of the runtime library are there
+abbrev pub has_runtime : Program → Bool
+has_runtime p =
+    WellTypes.is_there p.tables.heap (is_allocator_procedure (env_of p.tables outer_head 0 0 0 None)) && WellTypes.is_there p.tables.temp (is_allocator_procedure (env_of p.tables outer_head 0 0 0 None))

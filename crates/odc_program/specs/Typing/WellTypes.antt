@@ -1,9 +1,13 @@
 -- Tables of types as a program must have them, and what nodes ask of types.
-use Rattle.std.specs.Prelude.{ℕ, suc, ◌+◌, ◌-◌, ◌*◌, ◌^◌, ◌==◌, ◌&&◌, ◌||◌, not, Bool, true, false, nat_lt, int_le, int_lt, if◌then◌else◌, ℤ, pos, ◌-ℤ◌, List, [], ◌∷◌, length, max, Option, Some, None, slice_get}
+use Rattle.std.specs.Prelude.{ℕ, zero, suc, ◌++◌, ◌+◌, ◌-◌, ◌*◌, ◌^◌, ◌==◌, ◌&&◌, ◌||◌, not, Bool, true, false, nat_lt, int_le, int_lt, if◌then◌else◌, ℤ, pos, ◌-ℤ◌, List, [], ◌∷◌, length, max, Option, Some, None, slice_get}
 use Rattle.odc_program.specs.declared.ops.Constant.{Constant}
 use Rattle.odc_program.specs.declared.ops.Constant.TheVariants as con
-use Rattle.odc_program.specs.Trees.Program.{Part, Enumerator, Shape, truth, whole, rune, text, raw, address, array, slice, dynamic, soa_array, soa_slice, soa_dynamic, fields, variants, names, procedure, several, Ty}
-use Rattle.odc_program.specs.States.State.{Env, size_of, align_of, shape_of, base_type}
+use Rattle.odc_text.specs.declared.place.Place.{Place}
+use Rattle.odc_types.specs.declared.width.Width.{Width}
+use Rattle.odc_types.specs.declared.width.Width.TheVariants as width
+use Rattle.odc_types.specs.Widths as widths
+use Rattle.odc_program.specs.Trees.Program.{Part, Enumerator, Shape, truth, whole, rune, text, raw, address, array, slice, dynamic, soa_array, soa_slice, soa_dynamic, fields, variants, names, procedure, several, Name, Ty}
+use Rattle.odc_program.specs.States.State.{Env, ty_of, size_of, align_of, shape_of, base_type}
 use Rattle.odc_program.specs.Kinds.Layouts.{parts_in, round_up, storage_size, in_columns}
 use Rattle.odc_program.specs.Kinds.Calling.{types_of}
 
@@ -32,20 +36,37 @@ abbrev pub is_there : {A : Type 0} → Option A → (A → Bool) → Bool
 is_there None f = false
 is_there (Some a) f = f a
 
+-- ---- integer types
+-- `int` and `uint` are other types than `i64` and `u64`
+abbrev pub number_of : Width → ℕ
+number_of width.Int = 0
+number_of width.Uint = 1
+number_of width.I8 = 2
+number_of width.I16 = 3
+number_of width.I32 = 4
+number_of width.I64 = 5
+number_of width.U8 = 6
+number_of width.U16 = 7
+number_of width.U32 = 8
+number_of width.U64 = 9
+
+abbrev pub same_width : Width → Width → Bool
+same_width v w = number_of v == number_of w
+
 -- ---- kinds of types
 abbrev pub is_whole : Shape → Bool
-is_whole (whole s) = true
+is_whole (whole w) = true
 is_whole rune = true
 is_whole _ = false
 
 abbrev pub is_integer : Shape → Bool
-is_integer (whole s) = true
+is_integer (whole w) = true
 is_integer _ = false
 
 abbrev pub is_number : Shape → Bool
-is_number (whole s) = true
+is_number (whole w) = true
 is_number rune = true
-is_number (names s es) = true
+is_number (names w es) = true
 is_number _ = false
 
 abbrev pub is_truth : Shape → Bool
@@ -86,15 +107,27 @@ is_printed text = true
 is_printed s = is_number s
 
 abbrev pub is_signed : Shape → Bool
-is_signed (whole s) = s
-is_signed (names s es) = s
+is_signed (whole w) = widths.is_signed w
+is_signed (names w es) = widths.is_signed w
 is_signed _ = true
 
+abbrev pub is_none : {A : Type 0} → Option A → Bool
+is_none None = true
+is_none (Some a) = false
+
+abbrev pub is_width : Width → Shape → Bool
+is_width v (whole w) = same_width v w
+is_width v _ = false
+
+-- an integer type of the language, and not a distinct one
+abbrev pub is_integer_of : Width → Env → ℕ → Bool
+is_integer_of w env t = is_width w (shape_of env t) && is_none (ty_of env t).name
+
 abbrev pub is_int : Env → ℕ → Bool
-is_int env t = is_whole (shape_of env t) && (is_signed (shape_of env t) && (size_of env t == 8))
+is_int env t = is_integer_of width.Int env t
 
 abbrev pub is_byte : Env → ℕ → Bool
-is_byte env t = is_whole (shape_of env t) && (not (is_signed (shape_of env t)) && (size_of env t == 1))
+is_byte env t = is_integer_of width.U8 env t
 
 abbrev pub is_slice_of : ℕ → Shape → Bool
 is_slice_of e (slice f) = e == f
@@ -123,24 +156,48 @@ is_byte_slice env t = byte_slice_in env (shape_of env t)
 abbrev pub is_error : Env → ℕ → Bool
 is_error env t = is_number (shape_of env t) && (not (is_whole (shape_of env t)) && (size_of env t == 1))
 
-abbrev pub allocator_in : Env → Shape → Bool
-allocator_in env (fields (p ∷ q ∷ [])) = (base_type env p.ty == base_type env env.tables.allocator) && is_pointer (shape_of env q.ty)
-allocator_in env _ = false
-
-abbrev pub is_allocator : Env → ℕ → Bool
-is_allocator env t = allocator_in env (shape_of env t)
-
-abbrev pub offsets : List Part → List ℕ
-offsets [] = []
-offsets (p ∷ ps) = p.offset ∷ offsets ps
-
--- two allocators, a pointer and an `int`
-abbrev pub is_context : Env → ℕ → Bool
-is_context env t = (size_of env t == 48) && same_list (offsets (parts_in (shape_of env t))) (0 ∷ 16 ∷ 32 ∷ 40 ∷ [])
+-- ---- the types that allocators need: a location, their procedures, an allocator, and a context
+abbrev pub is_location_shape : Env → Shape → Bool
+is_location_shape env (fields (p ∷ l ∷ c ∷ n ∷ [])) =
+    (is_text (shape_of env p.ty) && (is_integer_of width.I32 env l.ty && (is_integer_of width.I32 env c.ty && is_text (shape_of env n.ty)))) &&
+    same_list (p.offset ∷ l.offset ∷ c.offset ∷ n.offset ∷ []) (0 ∷ 16 ∷ 20 ∷ 24 ∷ [])
+is_location_shape env _ = false
 
 -- a path, a line, a column and a name
 abbrev pub is_location : Env → ℕ → Bool
-is_location env t = (size_of env t == 40) && same_list (offsets (parts_in (shape_of env t))) (0 ∷ 16 ∷ 20 ∷ 24 ∷ [])
+is_location env t = is_location_shape env (shape_of env t)
+
+abbrev pub is_small : Env → ℕ → Bool
+is_small env t = is_number (shape_of env t) && (size_of env t == 1)
+
+abbrev pub asks_and_answers : Env → Shape → Bool
+asks_and_answers env (procedure true (d ∷ mode ∷ size ∷ align ∷ old ∷ old_size ∷ at ∷ []) (memory ∷ error ∷ [])) =
+    (is_raw (shape_of env d) && (is_small env mode && (is_int env size && (is_int env align && (is_raw (shape_of env old) && (is_int env old_size && is_location env at)))))) &&
+    (is_byte_slice env memory && is_error env error)
+asks_and_answers env _ = false
+
+-- the table's type of allocator procedures is one
+abbrev pub has_allocators : Env → Bool
+has_allocators env = asks_and_answers env (shape_of env env.tables.allocator)
+
+abbrev pub is_asked : Env → ℕ → Bool
+is_asked env t = (base_type env t == base_type env env.tables.allocator) && has_allocators env
+
+abbrev pub is_allocator_shape : Env → Shape → Bool
+is_allocator_shape env (fields (p ∷ q ∷ [])) = is_asked env p.ty && is_raw (shape_of env q.ty)
+is_allocator_shape env _ = false
+
+abbrev pub is_allocator : Env → ℕ → Bool
+is_allocator env t = is_allocator_shape env (shape_of env t)
+
+abbrev pub is_context_shape : Env → Shape → Bool
+is_context_shape env (fields (a ∷ b ∷ p ∷ i ∷ [])) =
+    (is_allocator env a.ty && (is_allocator env b.ty && (is_raw (shape_of env p.ty) && is_int env i.ty))) && same_list (a.offset ∷ b.offset ∷ p.offset ∷ i.offset ∷ []) (0 ∷ 16 ∷ 32 ∷ 40 ∷ [])
+is_context_shape env _ = false
+
+-- two allocators, a pointer and an `int`
+abbrev pub is_context : Env → ℕ → Bool
+is_context env t = is_context_shape env (shape_of env t)
 
 abbrev pub element_in : Shape → Option ℕ
 element_in (array e n) = Some e
@@ -201,19 +258,25 @@ all_sizes env n (t ∷ ts) = all_sizes env (n + size_of env t) ts
 abbrev pub sized : Ty → ℕ → ℕ → Bool
 sized r size align = (r.size == size) && (r.align == align)
 
-abbrev pub is_scalar_size : ℕ → Bool
-is_scalar_size n = has n (1 ∷ 2 ∷ 4 ∷ 8 ∷ [])
+-- a type of the table that values have
+abbrev pub is_several : Shape → Bool
+is_several (several ts) = true
+is_several _ = false
+
+abbrev pub is_value_type : Env → ℕ → Bool
+is_value_type env t = nat_lt t (length env.tables.types) && not (is_several (shape_of env t))
 
 abbrev pub known : Env → List ℕ → Bool
-known env ts = every (below (length env.tables.types)) ts
+known env ts = every (is_value_type env) ts
 
-abbrev pub is_struct : Shape → Bool
-is_struct (fields ps) = true
-is_struct _ = false
+-- what a `#soa` container may be over: a struct of 1 to 16 fields
+abbrev pub is_record : Shape → Bool
+is_record (fields ps) = nat_lt 0 (length ps) && nat_lt (length ps) 17
+is_record _ = false
 
 abbrev pub well_shape : Env → Ty → Shape → Bool
 well_shape env r truth = sized r 1 1
-well_shape env r (whole s) = sized r r.size r.size && is_scalar_size r.size
+well_shape env r (whole w) = sized r (widths.bytes_of w) (widths.bytes_of w)
 well_shape env r rune = sized r 4 4
 well_shape env r text = sized r 16 8
 well_shape env r raw = sized r 8 8
@@ -221,14 +284,14 @@ well_shape env r (address t) = sized r 8 8 && known env (t ∷ [])
 well_shape env r (array e n) = sized r (n * size_of env e) (align_of env e) && known env (e ∷ [])
 well_shape env r (slice e) = sized r 16 8 && known env (e ∷ [])
 well_shape env r (dynamic e) = sized r 40 8 && known env (e ∷ [])
-well_shape env r (soa_array t n) = is_struct (shape_of env t) && sized r (round_up (storage_size n (in_columns env t)) (align_of env t)) (align_of env t)
-well_shape env r (soa_slice t) = is_struct (shape_of env t) && sized r (8 * length (parts_in (shape_of env t)) + 8) 8
-well_shape env r (soa_dynamic t) = is_struct (shape_of env t) && sized r (8 * length (parts_in (shape_of env t)) + 32) 8
+well_shape env r (soa_array t n) = is_record (shape_of env t) && sized r (round_up (storage_size n (in_columns env t)) (align_of env t)) (align_of env t)
+well_shape env r (soa_slice t) = is_record (shape_of env t) && sized r (8 * length (parts_in (shape_of env t)) + 8) 8
+well_shape env r (soa_dynamic t) = is_record (shape_of env t) && sized r (8 * length (parts_in (shape_of env t)) + 32) 8
 well_shape env r (fields ps) = known env (types_of_parts ps) && is_there (fields_end env 0 ps) (λ n. sized r (round_up n (greatest env 1 ps)) (greatest env 1 ps))
 well_shape env r (variants tag ts) = known env ts && ((tag == round_up (widest env 0 ts) 8) && sized r (tag + 8) 8)
-well_shape env r (names s es) = sized r r.size r.size && is_scalar_size r.size
+well_shape env r (names w es) = sized r (widths.bytes_of w) (widths.bytes_of w) && every (λ e. in_range (widths.is_signed w) (widths.bytes_of w) e.value) es
 well_shape env r (procedure odin ps rs) = sized r 8 8 && (known env ps && known env rs)
-well_shape env r (several ts) = known env ts && (r.size == all_sizes env 0 ts)
+well_shape env r (several ts) = known env ts && (not (length ts == 1) && sized r (all_sizes env 0 ts) 8)
 
 -- ---- when two rows have one shape
 abbrev pub same_parts : List Part → List Part → Bool
@@ -247,7 +310,7 @@ same_truth false x = not x
 
 abbrev pub same_shape : Shape → Shape → Bool
 same_shape truth truth = true
-same_shape (whole s) (whole r) = same_truth s r
+same_shape (whole v) (whole w) = same_width v w
 same_shape rune rune = true
 same_shape text text = true
 same_shape raw raw = true
@@ -260,7 +323,7 @@ same_shape (soa_slice e) (soa_slice f) = e == f
 same_shape (soa_dynamic e) (soa_dynamic f) = e == f
 same_shape (fields ps) (fields qs) = same_parts ps qs
 same_shape (variants tag ts) (variants at us) = (tag == at) && same_list ts us
-same_shape (names s es) (names r fs) = same_truth s r && same_names es fs
+same_shape (names v es) (names w fs) = same_width v w && same_names es fs
 same_shape (procedure odin ps rs) (procedure other qs ss) = same_truth odin other && (same_list ps qs && same_list rs ss)
 same_shape (several ts) (several us) = same_list ts us
 same_shape _ _ = false
@@ -269,30 +332,78 @@ same_shape _ _ = false
 abbrev pub well_base : Env → Ty → Bool
 well_base env r = nat_lt r.base (length env.tables.types) && ((base_type env r.base == r.base) && (sized r (size_of env r.base) (align_of env r.base) && same_shape r.shape (shape_of env r.base)))
 
--- types that are made of others without a name stand once; of the others there may be several with one shape
-abbrev pub is_made : Shape → Bool
-is_made (address t) = true
-is_made (array e n) = true
-is_made (slice e) = true
-is_made (dynamic e) = true
-is_made (soa_array e n) = true
-is_made (soa_slice e) = true
-is_made (soa_dynamic e) = true
-is_made (procedure odin ps rs) = true
-is_made (several ts) = true
-is_made _ = false
+-- ---- what tells types from each other: a struct, union, enum or distinct type its name, and every other its shape
+abbrev pub has_name : Shape → Bool
+has_name (fields ps) = true
+has_name (variants tag ts) = true
+has_name (names w es) = true
+has_name _ = false
 
--- a distinct type is its own; `n` is the number of the first row
-abbrev pub differs : Shape → ℕ → List Ty → Bool
-differs s n [] = true
-differs s n (r ∷ rs) = not ((r.base == n) && same_shape s r.shape) && differs s (n + 1) rs
+abbrev pub same_place : Place → Place → Bool
+same_place a b = (a.file.number == b.file.number) && ((a.line == b.line) && (a.column == b.column))
 
-abbrev pub each_from : ℕ → List Ty → Bool
-each_from n [] = true
-each_from n (r ∷ rs) = (not (r.base == n) || (not (is_made r.shape) || differs r.shape (n + 1) rs)) && each_from (n + 1) rs
+abbrev pub same_ints : List ℤ → List ℤ → Bool
+same_ints [] [] = true
+same_ints (a ∷ x) (b ∷ y) = int_le a b && (int_le b a && same_ints x y)
+same_ints _ _ = false
+
+abbrev pub same_name : Name → Name → Bool
+same_name a b = same_place a.at b.at && (same_list a.types b.types && same_ints a.numbers b.numbers)
+
+abbrev pub same_by : Option Name → Option Name → Bool → Bool
+same_by (Some a) (Some b) shapes = same_name a b
+same_by None None shapes = shapes
+same_by _ _ shapes = false
+
+-- whether two rows are of one type
+abbrev pub same_type : Ty → Ty → Bool
+same_type r q = same_by r.name q.name (same_shape r.shape q.shape)
 
 abbrev pub each_once : List Ty → Bool
-each_once rs = each_from 0 rs
+each_once [] = true
+each_once (r ∷ rs) = every (λ q. not (same_type r q)) rs && each_once rs
 
-abbrev pub well_row : Env → Ty → Bool
-well_row env r = well_shape env r r.shape && well_base env r
+-- the instance around a type is of types of the table, and its place in a file that is there
+abbrev pub well_name : Env → Bool → Option Name → Bool
+well_name env wanted None = not wanted
+well_name env wanted (Some n) = wanted && (known env n.types && nat_lt n.at.file.number (length env.tables.paths))
+
+-- ---- a type holds itself only behind a pointer, and one without a name not even there; n bounds the levels
+abbrev pub held_in : Shape → List ℕ
+held_in (array e n) = e ∷ []
+held_in (soa_array e n) = e ∷ []
+held_in (fields ps) = types_of_parts ps
+held_in (variants tag ts) = ts
+held_in (several ts) = ts
+held_in _ = []
+
+abbrev pub ends_by : Env → ℕ → ℕ → Bool
+ends_by env zero t = false
+ends_by env (suc n) t = every (ends_by env n) (held_in (shape_of env t))
+
+abbrev pub parts_named_in : Shape → List ℕ
+parts_named_in (address e) = e ∷ []
+parts_named_in (array e n) = e ∷ []
+parts_named_in (slice e) = e ∷ []
+parts_named_in (dynamic e) = e ∷ []
+parts_named_in (soa_array e n) = e ∷ []
+parts_named_in (soa_slice e) = e ∷ []
+parts_named_in (soa_dynamic e) = e ∷ []
+parts_named_in (procedure odin ps rs) = ps ++ rs
+parts_named_in (several ts) = ts
+parts_named_in _ = []
+
+abbrev pub is_told_by : Env → ℕ → ℕ → Bool
+is_told_by env zero t = false
+is_told_by env (suc n) t = not (is_none (ty_of env t).name) || every (is_told_by env n) (parts_named_in (shape_of env t))
+
+abbrev pub is_finite : Env → ℕ → Bool
+is_finite env t = ends_by env (length env.tables.types) t && is_told_by env (length env.tables.types) t
+
+abbrev pub well_row : Env → ℕ → Ty → Bool
+well_row env n r = well_shape env r r.shape && (well_base env r && (is_finite env n && well_name env (has_name r.shape || not (r.base == n)) r.name))
+
+-- the rows from a number on
+abbrev pub well_rows : Env → ℕ → List Ty → Bool
+well_rows env n [] = true
+well_rows env n (r ∷ rs) = well_row env n r && well_rows env (n + 1) rs

@@ -5,19 +5,14 @@ use Rattle.odc_text.specs.declared.code.Fault.{Fault}
 use Rattle.odc_program.specs.declared.program.Inst.{Inst}
 use Rattle.odc_program.specs.declared.program.Need.{Need as RustNeed}
 use Rattle.odc_program.specs.declared.program.Local.{Local as RustLocal}
-use Rattle.odc_program.specs.declared.program.Convention.{Convention}
-use Rattle.odc_program.specs.declared.program.Convention.TheVariants.{Odin, Contextless}
+use Rattle.odc_types.specs.declared.ty.Convention.{Convention}
+use Rattle.odc_types.specs.declared.ty.Convention.TheVariants.{Odin, Contextless}
 use Rattle.odc_program.specs.declared.program.Helper.{Helper as RustHelper}
 use Rattle.odc_program.specs.declared.program.Procedure.{Procedure as RustProcedure}
 use Rattle.odc_program.specs.declared.program.CheckError.{CheckError}
 use Rattle.odc_program.specs.declared.program.CheckError.TheVariants as error
-use Rattle.odc_program.specs.Trees.Program.{Local, Helper, Body}
+pub use Rattle.odc_program.specs.Trees.Program.{Instance, Local, Helper, Body}
 use Rattle.odc_program.specs.Views.StmtView.{stmts}
-
-pub record Instance : Type 0 where
-  pub proc : ℕ
-  pub types : List ℕ
-  pub numbers : List ℤ
 
 pub record Need : Type 0 where
   pub instance : Instance
@@ -53,7 +48,7 @@ has_context Contextless = false
 -- a helper has no text, so no place, name and needs of its own: it has those of its procedure
 abbrev pub helper : RustProcedure → RustHelper → Helper
 helper p h = record {
-  head = record { at = p.at; name = p.name_literal; has_context = false; ty = p.ty.index; parameters = h.parameters; results = h.results; locals = map local h.locals.items; frame = h.frame; needs = [] };
+  head = record { instance = instance p.inst; name = string_bytes p.name; at = p.at; literal = p.name_literal; has_context = false; ty = p.ty.index; parameters = h.parameters; results = h.results; locals = map local h.locals.items; frame = h.frame; needs = [] };
   body = stmts h.body.items;
 }
 

@@ -1,6 +1,10 @@
--- What a Rust program shows: its tables, with the addresses of globals and literals and the value of the first context.
+-- What a Rust program shows: its tables, with the addresses of globals and literals.
 use Rattle.std.specs.Prelude.{ℕ, zero, suc, ◌+◌, ◌*◌, ◌/◌, ◌==◌, ◌&&◌, ℤ, Bool, true, false, if◌then◌else◌, List, [], ◌∷◌, ◌++◌, Option, Some, None, map, length, string_bytes}
+use Rattle.std.specs.Option.{option_map}
 use Rattle.std.specs.Ordering.{int_eq}
+use Rattle.odc_text.specs.declared.place.Place.{Place}
+use Rattle.odc_types.specs.declared.ty.TypePlace.{TypePlace}
+use Rattle.odc_types.specs.declared.ty.TypeName.{TypeName}
 use Rattle.odc_program.specs.declared.ops.Constant.{Constant}
 use Rattle.odc_program.specs.declared.program.EnumeratorRow.{EnumeratorRow}
 use Rattle.odc_program.specs.declared.program.FieldRow.{FieldRow}
@@ -9,13 +13,12 @@ use Rattle.odc_program.specs.declared.program.TypeKind.TheVariants as k
 use Rattle.odc_program.specs.declared.program.TypeRow.{TypeRow}
 use Rattle.odc_program.specs.declared.program.GlobalVariable.{GlobalVariable as RustGlobal}
 use Rattle.odc_program.specs.declared.program.Literal.{Literal as RustLiteral}
-use Rattle.odc_program.specs.declared.program.Runtime.{Runtime}
 use Rattle.odc_program.specs.declared.program.Program.{Program as RustProgram}
-use Rattle.odc_program.specs.States.Bytes.{Value, zeros, procedure_bytes}
-use Rattle.odc_program.specs.Trees.Program.{Part, Enumerator, Shape, truth, whole, rune, text, raw, address, array, slice, dynamic, soa_array, soa_slice, soa_dynamic, fields, variants, names, procedure, several, Ty, Head, Global, Literal, Tables, Program}
+use Rattle.odc_program.specs.States.Bytes.{Value, zeros}
+use Rattle.odc_program.specs.Trees.Program.{Part, Enumerator, Shape, truth, whole, rune, text, raw, address, array, slice, dynamic, soa_array, soa_slice, soa_dynamic, fields, variants, names, procedure, several, Name, Ty, Head, Global, Literal, Tables, Program}
 use Rattle.odc_program.specs.States.State.{Env, spot, size_of}
-use Rattle.odc_program.specs.Kinds.Places.{constant_value}
-use Rattle.odc_program.specs.Kinds.Calling.{taken_part}
+use Rattle.odc_program.specs.Kinds.Places.{nowhere, constant_value}
+use Rattle.odc_program.specs.Kinds.Operators.{injected}
 use Rattle.odc_program.specs.Views.Instances as i
 
 -- ---- types
@@ -27,7 +30,7 @@ part f = record { offset = f.offset; ty = f.ty.index }
 
 abbrev pub shape : TypeKind → Shape
 shape k.Bool = truth
-shape (k.Int signed) = whole signed
+shape (k.Int width) = whole width
 shape k.Rune = rune
 shape k.Text = text
 shape k.RawPtr = raw
@@ -40,12 +43,18 @@ shape (k.SoaSlice t) = soa_slice t.index
 shape (k.SoaDyn t) = soa_dynamic t.index
 shape (k.Struct fs) = fields (map part fs.items)
 shape (k.Union tag ts) = variants tag (map (λ t. t.index) ts.items)
-shape (k.Enum signed es) = names signed (map enumerator es.items)
+shape (k.Enum width es) = names width (map enumerator es.items)
 shape (k.Proc c ps rs) = procedure (i.has_context c) (map (λ t. t.index) ps.items) (map (λ t. t.index) rs.items)
 shape (k.Several ts) = several (map (λ t. t.index) ts.items)
 
+abbrev pub place : TypePlace → Place
+place p = record { file = record { number = p.file }; line = p.line; column = p.column }
+
+abbrev pub name : TypeName → Name
+name n = record { at = place n.at; types = map (λ t. t.index) n.types.items; numbers = n.numbers.items }
+
 abbrev pub ty : TypeRow → Ty
-ty r = record { size = r.size; align = r.align; base = r.base.index; shape = shape r.kind }
+ty r = record { size = r.size; align = r.align; base = r.base.index; name = option_map name r.name; shape = shape r.kind }
 
 -- ---- procedures: a need is the position of the first procedure that is its instance
 abbrev pub same_numbers : List ℕ → List ℕ → Bool
@@ -71,8 +80,10 @@ positions ps (n ∷ ns) = position_from 0 ps n.instance ∷ positions ps ns
 
 abbrev pub head : List i.Procedure → i.Procedure → Head
 head ps p = record {
+  instance = p.instance;
+  name = p.name;
   at = p.at;
-  name = p.literal;
+  literal = p.literal;
   has_context = p.has_context;
   ty = p.ty;
   parameters = length p.parameters;
@@ -91,7 +102,7 @@ next_address at size = (at + size + 23) / 16 * 16
 
 -- tables of types alone, to make the values that globals start with
 abbrev pub types_alone : List Ty → List Literal → Tables
-types_alone ts ls = record { types = ts; globals = []; literals = ls; procedures = []; first = []; files = 0; allocator = 0 }
+types_alone ts ls = record { types = ts; globals = []; literals = ls; procedures = []; paths = []; files = 0; heap = None; temp = None; allocator = 0 }
 
 abbrev pub outside : Tables → Head → Env
 outside tables p = record { tables = tables; proc = p; number = 0; serial = 0; low = 0; shift = 0; storage = λ x. spot Rattle.odc_program.specs.States.Bytes.nil; context = None }
@@ -99,7 +110,7 @@ outside tables p = record { tables = tables; proc = p; number = 0; serial = 0; l
 abbrev pub first_value : Env → ℕ → Option Constant → Option ℕ → Value
 first_value env t None variant = zeros (size_of env t)
 first_value env t (Some c) None = constant_value env t c
-first_value env t (Some c) (Some variant) = taken_part env t (Some variant) (constant_value env (variant_type env t variant) c)
+first_value env t (Some c) (Some variant) = injected env t variant (constant_value env (variant_type env t variant) c)
   where
     nth : ℕ → List ℕ → ℕ
     nth zero ts = 0
@@ -116,7 +127,7 @@ first_value env t (Some c) (Some variant) = taken_part env t (Some variant) (con
 
 abbrev pub globals_from : Env → ℕ → List RustGlobal → List Global
 globals_from env at [] = []
-globals_from env at (g ∷ gs) = record { at = at; ty = g.ty.index; first = first_value env g.ty.index g.first g.variant } ∷ globals_from env (next_address at (size_of env g.ty.index)) gs
+globals_from env at (g ∷ gs) = record { place = g.at; at = at; ty = g.ty.index; first = first_value env g.ty.index g.first g.variant } ∷ globals_from env (next_address at (size_of env g.ty.index)) gs
 
 abbrev pub behind_globals : Env → ℕ → List RustGlobal → ℕ
 behind_globals env at [] = at
@@ -124,22 +135,14 @@ behind_globals env at (g ∷ gs) = behind_globals env (next_address at (size_of 
 
 abbrev pub literals_from : ℕ → List RustLiteral → List Literal
 literals_from at [] = []
-literals_from at (l ∷ ls) = record { at = at; bytes = l.bytes.items } ∷ literals_from (next_address at (length l.bytes.items)) ls
-
--- ---- the first context: its two allocators, and zeros
-abbrev pub allocator_value : Option ℕ → Value
-allocator_value None = zeros 16
-allocator_value (Some f) = procedure_bytes f ++ zeros 8
-
-abbrev pub first_context : Runtime → Value
-first_context r = allocator_value r.heap ++ allocator_value r.temp ++ zeros 16
+literals_from at (l ∷ ls) = record { place = l.at; at = at; bytes = l.bytes.items } ∷ literals_from (next_address at (length l.bytes.items)) ls
 
 abbrev pub no_head : Head
-no_head = record { at = record { file = record { number = 0 }; line = 0; column = 0 }; name = 0; has_context = false; ty = 0; parameters = 0; results = 0; locals = []; frame = 0; needs = [] }
+no_head = record { instance = record { proc = 0; types = []; numbers = [] }; name = []; at = nowhere; literal = 0; has_context = false; ty = 0; parameters = 0; results = 0; locals = []; frame = 0; needs = [] }
 
 abbrev pub with_procedures : RustProgram → List Ty → List i.Procedure → List Literal → List Global → Program
 with_procedures p ts ps ls gs = record {
-  tables = record { types = ts; globals = gs; literals = ls; procedures = map (head ps) ps; first = first_context p.runtime; files = p.runtime.files; allocator = p.runtime.allocator.index };
+  tables = record { types = ts; globals = gs; literals = ls; procedures = map (head ps) ps; paths = p.paths.items; files = p.runtime.files; heap = p.runtime.heap; temp = p.runtime.temp; allocator = p.runtime.allocator.index };
   bodies = map (λ q. q.body) ps;
   main = p.main;
 }
