@@ -136,6 +136,7 @@ module _ (S : Site) (c : Context) where
       by_shape (env S c) at o1 (type_in S.tables t).size (type_in S.tables t).shape v w u ≡ then_by (known at (int_of true 8 v) u) (λ y. (λ u. then_by (known at (int_of true 8 w) u) (λ z. calculate at o1 8 y z)))
   shaped o1 at t i v w u =
       ap (λ (k : Shape). by_shape (env S c) at o1 (type_in S.tables t).size k v w u) i.shape
+      ∙ ap (λ (b : Bool). wholes_by at o1 (type_in S.tables t).size (int_of b (type_in S.tables t).size v) (int_of b (type_in S.tables t).size w) u) i.signed
       ∙ ap (λ (n : ℕ). wholes_by at o1 n (int_of true n v) (int_of true n w) u) i.size
 
   -- a constant
@@ -167,7 +168,7 @@ module _ (S : Site) (c : Context) where
           evaluated_as S (Val S.entries 8) (held x) s h _ _
           (ap (λ (n : ℕ). then_by (read_at at (to b 0) n (costing s (s.cost + 1))) (as_read at (type_in S.tables t).shape)) i.size
           ∙ ap (λ (k : Shape). then_by (known at (load s.memory b 0 8) u) (as_read at k)) i.shape)
-          (evaluated_known S (Val S.entries 8) (held x) s h (s.cost + 1 + 1) at (load s.memory b 0 8) (as_read at (whole true))
+          (evaluated_known S (Val S.entries 8) (held x) s h (s.cost + 1 + 1) at (load s.memory b 0 8) (as_read at (whole i.width))
           (λ v loaded.
           let l8 : Loaded S.entries h.memory b (s.memory.size b) 8 v = loaded_from S.entries s.memory h.memory b 7 v tt tied loaded in
           let bytes = eight_bytes (bytes_at S.entries v) (simp length-map l8.long) (sane_bytes S.entries v l8.sane) in
@@ -232,6 +233,7 @@ module _ (S : Site) (c : Context) where
       let u : State = costing s cost in
       evaluated_as S (Val S.entries 8) code s h _ _
       (ap (λ (k : Shape). then_by (then_by (whole_by at (type_in S.tables t).size k v u) G) H) i.shape
+      ∙ ap (λ (b : Bool). then_by (then_by (known at (int_of b (type_in S.tables t).size v) u) G) H) i.signed
       ∙ ap (λ (n : ℕ). then_by (then_by (known at (int_of true n v) u) G) H) i.size
       ∙ then_then S.entries (known at (int_of true 8 v) u) G H)
       (evaluated_known S (Val S.entries 8) code s h cost at (int_of true 8 v) (λ z. (λ t1. then_by (G z t1) H))

@@ -7,6 +7,8 @@ use Rattle.std.proofs.lemmas.Bool.Decides.{nat_tests}
 use Rattle.odc_text.specs.declared.place.Place.{Place}
 use Rattle.odc_text.specs.Run.{strayed}
 use Rattle.rv_table.specs.Words.{minus, flag}
+use Rattle.odc_types.specs.declared.width.Width.{Width}
+use Rattle.odc_types.specs.Widths.{is_signed}
 use Rattle.odc_program.specs.States.Bytes.{Value, bytes_of, residue, int_of, truth_bytes}
 use Rattle.odc_program.specs.States.Run.{Res, ok, stop, then_by}
 use Rattle.odc_program.specs.States.State.{State, Leave, ends, Do, known, Env, Context}
@@ -123,14 +125,16 @@ evaluated_known {A} S Is code s h cost at a f k = by a refl
 -- ---- types
 pub record IntType (tables : Tables) (t : ℕ) : Type 0 where
   pub size : (type_in tables t).size ≡ 8
-  pub shape : (type_in tables t).shape ≡ whole true
+  pub width : Width
+  pub shape : (type_in tables t).shape ≡ whole width
+  pub signed : is_signed width ≡ true
 
 pub record BoolType (tables : Tables) (t : ℕ) : Type 0 where
   pub size : (type_in tables t).size ≡ 1
   pub shape : (type_in tables t).shape ≡ truth
 
-signed_shape : (s : Shape) → is_signed_shape s ≡ true → s ≡ whole true
-signed_shape (whole signed) e = ap whole e
+signed_shape : (s : Shape) → is_signed_shape s ≡ true → (w : Width) × (s ≡ whole w) × (is_signed w ≡ true)
+signed_shape (whole w) e = (w, refl, e)
 signed_shape _ e = cc
 
 truth_shape : (s : Shape) → is_truth_shape s ≡ true → s ≡ truth
@@ -149,7 +153,8 @@ pub int_type : (tables : Tables) (t : ℕ) → is_int tables t ≡ true → IntT
 int_type tables t e =
     let both = and_true ((type_in tables t).size == 8) (is_signed_shape (type_in tables t).shape) e in
     let test : ((type_in tables t).size == 8) ≡ true = both.0 in
-    record { size = grind (arith, nat_tests); shape = signed_shape (type_in tables t).shape both.1 }
+    let shape = signed_shape (type_in tables t).shape both.1 in
+    record { size = grind (arith, nat_tests); width = shape.0; shape = shape.1; signed = shape.2 }
 
 pub bool_type : (tables : Tables) (t : ℕ) → is_bool tables t ≡ true → BoolType tables t
 bool_type tables t e =

@@ -2,6 +2,7 @@
 -- the program: procedure after procedure, statement after statement, each before its parts.
 use Rattle.std.specs.Prelude.{ℕ, ◌+◌, ◌^◌, ◌==◌, ◌&&◌, ◌||◌, not, Bool, true, false, nat_le, nat_lt, List, [], ◌∷◌, take, length, get_or, Option, Some, None, slice_get}
 use Rattle.odc_text.specs.declared.place.Place.{Place}
+use Rattle.odc_types.specs.Widths.{is_signed}
 use Rattle.odc_program.specs.declared.ops.Constant.{Constant}
 use Rattle.odc_program.specs.declared.ops.Constant.TheVariants as con
 use Rattle.odc_program.specs.declared.ops.UnaryOp.{UnaryOp}
@@ -16,10 +17,10 @@ use Rattle.odc_program.specs.Trees.Program.{Shape, truth, whole, fields, several
 
 -- ---- types: eight bytes with a sign, and truth values in conditions
 abbrev pub type_in : Tables → ℕ → Ty
-type_in tables t = get_or tables.types t (record { size = 0; align = 1; base = t; shape = fields [] })
+type_in tables t = get_or tables.types t (record { size = 0; align = 1; base = t; name = None; shape = fields [] })
 
 abbrev pub is_signed_shape : Shape → Bool
-is_signed_shape (whole signed) = signed
+is_signed_shape (whole width) = is_signed width
 is_signed_shape _ = false
 
 abbrev pub is_truth_shape : Shape → Bool

@@ -403,12 +403,9 @@ begin_code o (suc n) = one (put o.result (word 0))
 abbrev pub body_code : Around → Body → CoreStmts
 body_code o q = join (begin_code o o.results) (join (stmts_code o q.stmts) (one (answered (result_code o o.results))))
 
-abbrev pub name_of : Tables → Head → List ℕ
-name_of tables p = (get_or tables.literals p.name (record { at = 0; bytes = [] })).bytes
-
 abbrev pub crossed : Tables → Head → Body → CoreProc
 crossed tables p q = record {
-  name = name_of tables p;
+  name = p.name;
   at = p.at;
   parameters = p.parameters;
   variables = variables_of (around tables p q);
