@@ -39,7 +39,7 @@ use Rattle.odc_carried.proofs.Sims.{then_then}
 use Rattle.odc_carried.proofs.Values.{Val, AreBytes, eight_bytes, val_int, val_word, residue_small, added, subtracted, multiplied, divided_word, rest_word, behind_is, not_twice, quotient_small, remainder_small, equal_test, zero_test}
 use Rattle.odc_carried.proofs.Ties.{Now, Own, Loaded, loaded_from, local_found, block, AreSane}
 use Rattle.odc_carried.proofs.Frame.{WordAt, local_variable}
-use Rattle.odc_carried.proofs.Quiet.{Quiet, quiet_const, quiet_held, quiet_binary, quiet_compare, quiet_not, quiet_less, quiet_as, flag_small, costing, Gave, Went, Evaluated, evaluated_as, evaluated_then, evaluated_known, IntType, BoolType, int_type, bool_type, and_true, or_false}
+use Rattle.odc_carried.proofs.Quiet.{Quiet, quiet_const, quiet_held, quiet_binary, quiet_compare, quiet_not, quiet_less, quiet_as, flag_small, costing, worded, some_divisor, IsDivisor, IsTruth, Gave, Went, Evaluated, evaluated_as, evaluated_then, evaluated_known, IntType, BoolType, int_type, bool_type, and_true, or_false}
 
 -- what a refusal that isn't there tells
 pub passed : (b : Bool) (at : Place) (r : Option Place) → unless b at r ≡ None → (b ≡ true) × (r ≡ None)
@@ -66,12 +66,6 @@ compared_kind o1 at p q e r = by (is_comparison o1) (is_connective o1) e r
     by true b f g = (refl, g)
     by false true f g = cc
     by false false f g = cc
-
--- a truth value
-pub record IsTruth (v : Value) (w : ℕ) : Type 0 where
-  pub b : Bool
-  pub value : v ≡ truth_bytes b
-  pub word : w ≡ flag b
 
 module _ (S : Site) (c : Context) (s : State) (h : Face) where
   -- a value as it is read
@@ -125,6 +119,7 @@ module _ (S : Site) (c : Context) (s : State) (h : Face) where
               ∙ ap (λ (q : Res Leave State Value). then_by (then_by q G) H) (law a b w isv.small (val2 w b isw).small isw u)
               ∙ read (res a b) (fw a b) (costing u (u.cost + k)) done;
           enough = omega (arith, enough, enough2);
+          some = omega arith;
           holds = done;
           quiet = quiet_less S code h (fw a b) (2 * paid + 2 * paid2 + q) (2 * (1 + paid + paid2 + k)) (omega arith) (quiet a b (2 * paid) (2 * paid2) w isv.small (val2 w b isw).small isw qx qy);
         })))))))))
@@ -132,7 +127,7 @@ module _ (S : Site) (c : Context) (s : State) (h : Face) where
 -- ---- operators
 module _ (S : Site) (c : Context) where
   -- two integers of this type
-  shaped : (o1 : BinaryOp) (at : Place) (t : ℕ) → IntType S.tables t → (v w : Value) (u : State) →
+  pub shaped : (o1 : BinaryOp) (at : Place) (t : ℕ) → IntType S.tables t → (v w : Value) (u : State) →
       by_shape (env S c) at o1 (type_in S.tables t).size (type_in S.tables t).shape v w u ≡ then_by (known at (int_of true 8 v) u) (λ y. (λ u. then_by (known at (int_of true 8 w) u) (λ z. calculate at o1 8 y z)))
   shaped o1 at t i v w u =
       ap (λ (k : Shape). by_shape (env S c) at o1 (type_in S.tables t).size k v w u) i.shape
@@ -140,7 +135,7 @@ module _ (S : Site) (c : Context) where
       ∙ ap (λ (n : ℕ). wholes_by at o1 n (int_of true n v) (int_of true n w) u) i.size
 
   -- a constant
-  const_eval : (calls : Calls) (Is : Value → ℕ → Type 0) (t : ℕ) (at : Place) (z : ℤ) (s : State) (h : Face) → IntType S.tables t → Is (bytes_of 8 (residue (2 ^ 64) z)) (residue (2 ^ 64) z) →
+  pub const_eval : (calls : Calls) (Is : Value → ℕ → Type 0) (t : ℕ) (at : Place) (z : ℤ) (s : State) (h : Face) → IntType S.tables t → Is (bytes_of 8 (residue (2 ^ 64) z)) (residue (2 ^ 64) z) →
       Evaluated S Is (word (residue (2 ^ 64) z)) s h (value_of calls (env S c) (expr t at (const (con.Int z))) s)
   const_eval calls Is t at z s h i holds = inl (record {
     value = bytes_of 8 (residue (2 ^ 64) z);
@@ -149,12 +144,13 @@ module _ (S : Site) (c : Context) where
     paid = 1;
     is = ap (λ (n : ℕ). value_in (env S c) at t (is (int_bytes n z)) (costing s (s.cost + 1))) i.size ∙ int_read S c s h t at (int_bytes 8 z) (costing s (s.cost + 1)) i;
     enough = omega arith;
+    some = omega arith;
     holds = holds;
     quiet = quiet_less S (word (residue (2 ^ 64) z)) h (residue (2 ^ 64) z) 1 2 (lit≤ tt) (quiet_const S (residue (2 ^ 64) z) h (residue_small z));
   })
 
   -- a variable
-  local_eval : (calls : Calls) (t : ℕ) (at : Place) (x : ℕ) (s : State) (h : Face) → IntType S.tables t → names_int S.tables S.proc x ≡ true → Tied S.entries s.memory h.memory →
+  pub local_eval : (calls : Calls) (t : ℕ) (at : Place) (x : ℕ) (s : State) (h : Face) → IntType S.tables t → names_int S.tables S.proc x ≡ true → Tied S.entries s.memory h.memory →
       Evaluated S (Val S.entries 8) (held x) s h (value_of calls (env S c) (expr t at (local x)) s)
   local_eval calls t at x s h i names tied = by (slice_get S.proc.locals x) refl names
     where
@@ -181,27 +177,23 @@ module _ (S : Site) (c : Context) where
             paid = 2;
             is = refl;
             enough = omega arith;
+            some = omega arith;
             holds = record { long = l8.long; is = bytes.0; small = bytes.1 };
             quiet = quiet_less S (held x) h w 3 (2 * 2) (lit≤ tt) (quiet_held S x (variable_of S.tables l) w h (local_variable S x l e) (omega (arith, size)) bytes.1 there);
           })))
-
-  -- a divisor that isn't zero
-  pub record IsDivisor (v : Value) (w : ℕ) : Type 0 where
-    pub val : Val S.entries 8 v w
-    pub some : (w == 0) ≡ false
 
   not_zero : (b : Bool) → not b ≡ true → b ≡ false
   not_zero true e = cc
   not_zero false e = refl
 
-  not_not : (b : Bool) → not b ≡ false → b ≡ true
+  pub not_not : (b : Bool) → not b ≡ false → b ≡ true
   not_not true e = refl
   not_not false e = cc
 
-  divisor_eval : (calls : Calls) (d : ℕ) (f : Expr) (s : State) (h : Face) → refused_int S.tables S.proc f ≡ None → is_divisor f ≡ true →
-      Evaluated S IsDivisor (value (o S) d f) s h (value_of calls (env S c) f s)
+  pub divisor_eval : (calls : Calls) (d : ℕ) (f : Expr) (s : State) (h : Face) → refused_int S.tables S.proc f ≡ None → is_divisor f ≡ true →
+      Evaluated S (IsDivisor S) (value (o S) d f) s h (value_of calls (env S c) f s)
   divisor_eval calls d (expr t at (const (con.Int z))) s h r e =
-      const_eval calls IsDivisor t at z s h (int_type S.tables t (passed (is_int S.tables t) at None r).0) (record { val = val_word S.entries (residue (2 ^ 64) z) (residue_small z); some = not_zero (residue (2 ^ 64) z == 0) e })
+      const_eval calls (IsDivisor S) t at z s h (int_type S.tables t (passed (is_int S.tables t) at None r).0) (record { val = val_word S.entries (residue (2 ^ 64) z) (residue_small z); some = not_zero (residue (2 ^ 64) z == 0) e })
   divisor_eval calls d _ s h r e = cc
 
   -- a sign before an integer
@@ -217,6 +209,7 @@ module _ (S : Site) (c : Context) where
         paid = 1 + paid;
         is = int_read S c s h t at v (costing s cost) i;
         enough = omega (arith, enough);
+        some = omega arith;
         holds = holds;
         quiet = quiet_less S x h w (2 * paid) (2 * (1 + paid)) (omega arith) q;
       })))
@@ -252,6 +245,7 @@ module _ (S : Site) (c : Context) where
             ∙ ap (λ (n : ℕ). H (is (bytes_of 8 n)) u) law
             ∙ int_read S c s h t at (bytes_of 8 (minus 0 w)) u i;
         enough = omega (arith, enough);
+        some = omega arith;
         holds = val_word S.entries (minus 0 w) small;
         quiet = quiet_less S code h (minus 0 w) (1 + 2 * paid + 1) (2 * (1 + paid)) (omega arith) (quiet_binary S Subtract (word 0) x h 0 w 1 (2 * paid) small (quiet_const S 0 h (lit< tt)) q);
       })))))
@@ -270,13 +264,6 @@ module _ (S : Site) (c : Context) where
       let P : ℕ → Type 0 = λ k. k < 2 ^ 64 in
       quiet_as S (operated core x y) h (binary_word core a b) (fw a b) (L + M + 1) (same a b) (quiet_binary S core x y h a b L M (subst P (sym (same a b)) (small a b p)) qx qy))
       at t (λ v w u k. int_read S c s h t at v u i) opr (λ v w u. oper v w u ∙ shaped o1 at t1 i1 v w u) r1 r2 first second
-
-  -- an integer as a word
-  pub worded : (u : State) (n w : ℕ) → n ≡ w → (let r : Res Leave State Value = ok (bytes_of 8 n) u in r) ≡ ok (bytes_of 8 w) (costing u (u.cost + 0))
-  worded u n w e = ap (λ (k : ℕ). let r : Res Leave State Value = ok (bytes_of 8 k) u in r) e ∙ ap (λ (k : ℕ). let r : Res Leave State Value = ok (bytes_of 8 w) (costing u k) in r) (sym (add-zero u.cost))
-
-  pub some_divisor : (at : Place) (u : State) (z : ℤ) (b : ℕ) → b < 2 ^ 64 → (b == 0) ≡ false → divided at 8 z (cast_signed w64 b) u ≡ ok (int_bytes 8 z) u
-  some_divisor at u z b p e = ap (λ (t : Bool). (if t then fail check.Division at else pure (int_bytes 8 z)) u) (zero_test b p ∙ e)
 
   -- where neither operand waits
   way_nested : (X : Way → Type 0) (l k : Bool) → l ≡ false → k ≡ false → X nested → X (way_by l k)
@@ -311,12 +298,12 @@ module _ (S : Site) (c : Context) where
     quiet_binary_kind op.Divide t at e f d s h i kind re rf check quiet first second =
         let r2 : Do Value = value_of calls (env S c) f in
         way_nested (λ w. Evaluated S (Val S.entries 8) (value_by (o S) d op.Divide w (value (o S) d e) (value (o S) (d + 1) f)) s h (value_of calls (env S c) (expr t at (binary op.Divide e f)) s)) (is_loud f) (checks op.Divide f) quiet check
-        (plain_eval op.Divide (value (o S) d e) (value (o S) (d + 1) f) Divide (quotient w64) IsDivisor at t (ty e) s h (value_of calls (env S c) e (costing s (s.cost + 1))) r2 i (type_of e re) (λ v w k. k.val)
+        (plain_eval op.Divide (value (o S) d e) (value (o S) (d + 1) f) Divide (quotient w64) (IsDivisor S) at t (ty e) s h (value_of calls (env S c) e (costing s (s.cost + 1))) r2 i (type_of e re) (λ v w k. k.val)
         (λ a b v p q k u. some_divisor at u (int_div (cast_signed w64 a) (cast_signed w64 b)) b q k.some ∙ worded u (residue (2 ^ 64) (int_div (cast_signed w64 a) (cast_signed w64 b))) (quotient w64 a b) (divided_word a b p k.some)) (λ a b p. quotient_small a b p) (λ a b. refl) (operate (env S c) at op.Divide (ty e) (ty f)) (λ v w u. refl) first (λ cost. divisor_eval calls (d + 1) f (costing s cost) h rf (not_not (is_divisor f) check)))
     quiet_binary_kind op.Remainder t at e f d s h i kind re rf check quiet first second =
         let r2 : Do Value = value_of calls (env S c) f in
         way_nested (λ w. Evaluated S (Val S.entries 8) (value_by (o S) d op.Remainder w (value (o S) d e) (value (o S) (d + 1) f)) s h (value_of calls (env S c) (expr t at (binary op.Remainder e f)) s)) (is_loud f) (checks op.Remainder f) quiet check
-        (plain_eval op.Remainder (value (o S) d e) (value (o S) (d + 1) f) Remainder (remainder w64) IsDivisor at t (ty e) s h (value_of calls (env S c) e (costing s (s.cost + 1))) r2 i (type_of e re) (λ v w k. k.val)
+        (plain_eval op.Remainder (value (o S) d e) (value (o S) (d + 1) f) Remainder (remainder w64) (IsDivisor S) at t (ty e) s h (value_of calls (env S c) e (costing s (s.cost + 1))) r2 i (type_of e re) (λ v w k. k.val)
         (λ a b v p q k u. some_divisor at u (int_rem (cast_signed w64 a) (cast_signed w64 b)) b q k.some ∙ worded u (residue (2 ^ 64) (int_rem (cast_signed w64 a) (cast_signed w64 b))) (remainder w64 a b) (rest_word a b p k.some)) (λ a b p. remainder_small a b p) (λ a b. refl) (operate (env S c) at op.Remainder (ty e) (ty f)) (λ v w u. refl) first (λ cost. divisor_eval calls (d + 1) f (costing s cost) h rf (not_not (is_divisor f) check)))
     quiet_binary_kind o1 t at e f d s h i kind re rf check quiet first second = absurd (cc)
 
@@ -378,6 +365,7 @@ module _ (S : Site) (c : Context) where
         paid = 1 + paid;
         is = ap (λ (y : Value). then_by (unary_value (env S c) at t un.Not y u) H) holds.value ∙ by holds.b u ∙ truth_read S c s h t at (not holds.b) u i;
         enough = omega (arith, enough);
+        some = omega arith;
         holds = record { b = not holds.b; value = refl; word = refl };
         quiet = quiet_less S (negated x) h (flag (not holds.b)) (2 * paid + 1 + 1) (2 * (1 + paid)) (omega arith) (quiet_not S x h (2 * paid) holds.b qb);
       })))
@@ -386,7 +374,7 @@ module _ (S : Site) (c : Context) where
       by true u = refl
       by false u = refl
 
-  truth_constant_eval : (calls : Calls) (t : ℕ) (at : Place) (b : Bool) (s : State) (h : Face) → BoolType S.tables t → Evaluated S IsTruth (word (flag b)) s h (value_of calls (env S c) (expr t at (const (con.Bool b))) s)
+  pub truth_constant_eval : (calls : Calls) (t : ℕ) (at : Place) (b : Bool) (s : State) (h : Face) → BoolType S.tables t → Evaluated S IsTruth (word (flag b)) s h (value_of calls (env S c) (expr t at (const (con.Bool b))) s)
   truth_constant_eval calls t at b s h i = inl (record {
     value = truth_bytes b;
     word = flag b;
@@ -394,6 +382,7 @@ module _ (S : Site) (c : Context) where
     paid = 1;
     is = truth_read S c s h t at b (costing s (s.cost + 1)) i;
     enough = omega arith;
+    some = omega arith;
     holds = record { b = b; value = refl; word = refl };
     quiet = quiet_less S (word (flag b)) h (flag b) 1 2 (lit≤ tt) (quiet_const S (flag b) h (flag_small b));
   })

@@ -6,4 +6,10 @@ pub mod Writes
 pub mod Frame
 pub mod Quiet
 pub mod Evals
+pub mod Codes
 pub mod Tell
+pub mod Operators
+pub mod Loud
+pub mod Branches
+pub mod Arguments
+pub mod Exprs

@@ -5,13 +5,16 @@ use Rattle.std.specs.Prelude.{ℤ, pos, ◌-ℤ◌, Option, Some, None, slice_ge
 use Rattle.std.specs.Int.{w64, cast_signed}
 use Rattle.std.proofs.lemmas.Bool.Decides.{nat_tests}
 use Rattle.odc_text.specs.declared.place.Place.{Place}
-use Rattle.odc_text.specs.Run.{strayed}
+use Rattle.std.proofs.Math.Nat.{add-zero}
+use Rattle.odc_text.specs.declared.check.Check.TheVariants as check
+use Rattle.odc_text.specs.Run.{strayed, checked}
 use Rattle.rv_table.specs.Words.{minus, flag}
 use Rattle.odc_types.specs.declared.width.Width.{Width}
 use Rattle.odc_types.specs.Widths.{is_signed}
-use Rattle.odc_program.specs.States.Bytes.{Value, bytes_of, residue, int_of, truth_bytes}
-use Rattle.odc_program.specs.States.Run.{Res, ok, stop, then_by}
-use Rattle.odc_program.specs.States.State.{State, Leave, ends, Do, known, Env, Context}
+use Rattle.odc_program.specs.States.Bytes.{Value, bytes_of, residue, int_bytes, int_of, truth_bytes}
+use Rattle.odc_program.specs.States.Run.{Res, ok, stop, then_by, pure}
+use Rattle.odc_program.specs.States.State.{State, Leave, ends, Do, known, fail, Env, Context}
+use Rattle.odc_program.specs.Kinds.Operators.{divided}
 use Rattle.odc_program.specs.Kinds.Places.{value_in}
 use Rattle.odc_program.specs.Runs.Source.{env_of}
 use Rattle.odc_program.specs.Trees.Program.{Shape, whole, truth, Tables}
@@ -24,7 +27,7 @@ use Rattle.odc_core.specs.declared.tree.Comparison.TheVariants.{Equal}
 use Rattle.odc_carried.specs.Code.{variables_of, held, negated}
 use Rattle.odc_carried.specs.Carried.{type_in, is_int, is_bool, is_signed_shape, is_truth_shape}
 use Rattle.odc_carried.proofs.Runs.{Face, Runs}
-use Rattle.odc_carried.proofs.Values.{Val, val_int}
+use Rattle.odc_carried.proofs.Values.{Val, val_int, zero_test}
 use Rattle.odc_carried.specs.Tied.{Site, o, env}
 use Rattle.odc_carried.proofs.Frame.{WordAt, ev, r_const, r_held, r_binary, r_compare}
 
@@ -89,6 +92,7 @@ pub record Gave (S : Site) (Is : Value → ℕ → Type 0) (code : CoreExpr) (s 
   pub paid : ℕ
   pub is : r ≡ ok value (costing s cost)
   pub enough : s.cost + paid ≤ cost
+  pub some : 1 ≤ paid
   pub holds : Is value word
   pub quiet : Quiet S code h word (2 * paid)
 
@@ -161,3 +165,25 @@ bool_type tables t e =
     let both = and_true ((type_in tables t).size == 1) (is_truth_shape (type_in tables t).shape) e in
     let test : ((type_in tables t).size == 1) ≡ true = both.0 in
     record { size = grind (arith, nat_tests); shape = truth_shape (type_in tables t).shape both.1 }
+
+-- ---- results
+-- an integer as a word
+pub worded : (u : State) (n w : ℕ) → n ≡ w → (let r : Res Leave State Value = ok (bytes_of 8 n) u in r) ≡ ok (bytes_of 8 w) (costing u (u.cost + 0))
+worded u n w e = ap (λ (k : ℕ). let r : Res Leave State Value = ok (bytes_of 8 k) u in r) e ∙ ap (λ (k : ℕ). let r : Res Leave State Value = ok (bytes_of 8 w) (costing u k) in r) (sym (add-zero u.cost))
+
+pub some_divisor : (at : Place) (u : State) (z : ℤ) (b : ℕ) → b < 2 ^ 64 → (b == 0) ≡ false → divided at 8 z (cast_signed w64 b) u ≡ ok (int_bytes 8 z) u
+some_divisor at u z b p e = ap (λ (t : Bool). (if t then fail check.Division at else pure (int_bytes 8 z)) u) (zero_test b p ∙ e)
+
+pub zero_divisor : (at : Place) (u : State) (z : ℤ) (b : ℕ) → b < 2 ^ 64 → (b == 0) ≡ true → divided at 8 z (cast_signed w64 b) u ≡ stop (ends (checked check.Division at)) u
+zero_divisor at u z b p e = ap (λ (t : Bool). (if t then fail check.Division at else pure (int_bytes 8 z)) u) (zero_test b p ∙ e)
+
+-- a divisor that isn't zero
+pub record IsDivisor (S : Site) (v : Value) (w : ℕ) : Type 0 where
+  pub val : Val S.entries 8 v w
+  pub some : (w == 0) ≡ false
+
+-- a truth value
+pub record IsTruth (v : Value) (w : ℕ) : Type 0 where
+  pub b : Bool
+  pub value : v ≡ truth_bytes b
+  pub word : w ≡ flag b

@@ -280,6 +280,28 @@ module _ (entries : ℕ → ℕ) where
   }
   sim_weaker R Q j b g act s h (stop why t) f x = record { by = x.by }
 
+  same_result : {A : Type 0} (r : Res Leave State A) → then_by r (λ v. (λ t. ok v t)) ≡ r
+  same_result (ok v t) = refl
+  same_result (stop why t) = refl
+
+  -- the core run alone behind, which leaves the world outside as it is
+  pub record Behind {A C : Type 0} (Q : A → State → C → Face → Type 0) (j cost : ℕ) (next : Fueled C) (v : A) (t : State) (h : Face) : Type 0 where
+    pub word : C
+    pub face : Face
+    pub budget : ℕ
+    pub runs : Runs j next h budget cost word face
+    pub told : Told t h → Told t face
+    pub holds : Q v t word face
+
+  pub sim_behind : {A B C : Type 0} (R : A → State → B → Face → Type 0) (Q : A → State → C → Face → Type 0) (j b cost g : ℕ) (act : Fueled B) (next : B → Fueled C) (s : State) (h : Face) (r : Res Leave State A) →
+      Sim R j b g act s h r → ((v : A) (t : State) (w : B) (h' : Face) → R v t w h' → Behind Q j cost (next w) v t h') → Sim Q j (b + cost) g (λ n. act n >>= (λ v. next v n)) s h r
+  sim_behind {A} R Q j b cost g act next s h r sim f =
+      let P : Res Leave State A → Type 0 = λ q. Sim Q j (b + cost) g (λ n. act n >>= (λ v. next v n)) s h q in
+      subst P (same_result r) (seq R Q j b cost g g act next s h r (λ v. (λ t. ok v t)) sim
+      (λ v t w h' holds told fewer.
+      let x = f v t w h' holds in
+      sim_runs Q j (cost + g) g (next w) t h' x.face v x.budget cost x.word x.runs told (x.told told) (omega arith) x.holds))
+
   -- parts in a row, bracketed otherwise
   pub onto_onto : {A B C : Type 0} (r : CoreRes A) (f : A → CoreAct B) (g : B → CoreAct C) → onto (onto r f) g ≡ onto r (λ v t. onto (f v t) g)
   onto_onto (fine v t) f g = refl

@@ -13,8 +13,8 @@ use Rattle.odc_carried.specs.Tied.{Site}
 use Rattle.odc_carried.specs.Kept.{IsSame, QuietIntegers, QuietTruths}
 use Rattle.odc_carried.proofs.Runs.{Face}
 use Rattle.odc_carried.proofs.Values.{Val}
-use Rattle.odc_carried.proofs.Quiet.{Evaluated}
-use Rattle.odc_carried.proofs.Evals.{IsTruth, quiet_int, quiet_truth}
+use Rattle.odc_carried.proofs.Quiet.{Evaluated, IsTruth}
+use Rattle.odc_carried.proofs.Evals.{quiet_int, quiet_truth}
 
 abbrev face : CoreState → Face
 face t = record { memory = t.memory; log = t.log; input = t.input; taken = t.taken }
