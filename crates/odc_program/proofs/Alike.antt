@@ -5,9 +5,9 @@ use Rattle.std.specs.Prelude.{Option, Some, None, if◌then◌else◌, ◌+◌, 
 use Rattle.odc_text.specs.declared.place.Place.{Place}
 use Rattle.odc_text.specs.declared.check.Check.{Check}
 use Rattle.odc_text.specs.Run.{End, strayed, checked, Entry}
-use Rattle.odc_program.specs.Run.{Res, ok, stop, pure, halt, then_by, ◌>>=◌}
-use Rattle.odc_program.specs.Bytes.{Block, Pointer, nil, to, Value}
-use Rattle.odc_program.specs.State as s
+use Rattle.odc_program.specs.States.Run.{Res, ok, stop, pure, halt, then_by, ◌>>=◌}
+use Rattle.odc_program.specs.States.Bytes.{Block, Pointer, nil, to, Value}
+use Rattle.odc_program.specs.States.State as s
 
 -- where the second stands
 pub data Tail : Type 0 where

@@ -4,15 +4,15 @@ use Rattle.std.specs.Prelude.{ℤ, pos, negsuc, Option, Some, None, if◌then◌
 use Rattle.odc_text.specs.declared.place.Place.{Place}
 use Rattle.odc_text.specs.declared.check.Check.{Check}
 use Rattle.odc_text.specs.declared.check.Check.TheVariants as check
-use Rattle.odc_program.specs.Run.{pure, ◌>>=◌}
-use Rattle.odc_program.specs.Bytes.{Pointer, nil, Value, number_of, zeros, int_bytes, int_of, pointer_of, procedure_of, piece}
-use Rattle.odc_program.specs.Layouts as l
-use Rattle.odc_program.specs.State as s
-use Rattle.odc_program.specs.Places as p
-use Rattle.odc_program.specs.Operators as o
-use Rattle.odc_program.specs.Calling as c
-use Rattle.odc_program.specs.Builtins as i
-use Rattle.odc_program.specs.Allocating as g
+use Rattle.odc_program.specs.States.Run.{pure, ◌>>=◌}
+use Rattle.odc_program.specs.States.Bytes.{Pointer, nil, Value, number_of, zeros, int_bytes, int_of, pointer_of, procedure_of, piece}
+use Rattle.odc_program.specs.Kinds.Layouts as l
+use Rattle.odc_program.specs.States.State as s
+use Rattle.odc_program.specs.Kinds.Places as p
+use Rattle.odc_program.specs.Kinds.Operators as o
+use Rattle.odc_program.specs.Kinds.Calling as c
+use Rattle.odc_program.specs.Kinds.Builtins as i
+use Rattle.odc_program.specs.Kinds.Allocating as g
 use Rattle.odc_program.proofs.Alike as a
 use Rattle.odc_program.proofs.PlacesAlike as pl
 use Rattle.odc_program.proofs.CallsAlike as cl

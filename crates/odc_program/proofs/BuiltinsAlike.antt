@@ -6,14 +6,14 @@ use Rattle.odc_text.specs.declared.place.Place.{Place}
 use Rattle.odc_text.specs.declared.check.Check.{Check}
 use Rattle.odc_text.specs.declared.check.Check.TheVariants as check
 use Rattle.odc_text.specs.Run.{err, exited}
-use Rattle.odc_program.specs.Run.{pure, ◌>>=◌}
-use Rattle.odc_program.specs.Bytes.{Pointer, nil, to, Value, number_of, numbers, residue, int_bytes, int_of, pointer_of, piece}
-use Rattle.odc_program.specs.Program as q
-use Rattle.odc_program.specs.Layouts as l
-use Rattle.odc_program.specs.State as s
-use Rattle.odc_program.specs.Places as p
-use Rattle.odc_program.specs.Printing as w
-use Rattle.odc_program.specs.Builtins as i
+use Rattle.odc_program.specs.States.Run.{pure, ◌>>=◌}
+use Rattle.odc_program.specs.States.Bytes.{Pointer, nil, to, Value, number_of, numbers, residue, int_bytes, int_of, pointer_of, piece}
+use Rattle.odc_program.specs.Trees.Program as q
+use Rattle.odc_program.specs.Kinds.Layouts as l
+use Rattle.odc_program.specs.States.State as s
+use Rattle.odc_program.specs.Kinds.Places as p
+use Rattle.odc_program.specs.Kinds.Printing as w
+use Rattle.odc_program.specs.Kinds.Builtins as i
 use Rattle.odc_program.proofs.Alike as a
 use Rattle.odc_program.proofs.PlacesAlike as pl
 use Rattle.odc_program.proofs.OperatorsAlike as ol

@@ -2,18 +2,20 @@
 use Rattle.std.proofs.Common.{ℕ, Bool, true, false, List, [], ◌∷◌}
 use Rattle.std.specs.Prelude.{Option, Some, None, if◌then◌else◌, ◌==◌, get_or}
 use Rattle.odc_text.specs.declared.place.Place.{Place}
+use Rattle.odc_program.specs.declared.ops.Taken.{Taken}
 use Rattle.odc_text.specs.declared.check.Check.{Check}
 use Rattle.odc_text.specs.declared.check.Check.TheVariants as check
-use Rattle.odc_program.specs.Run.{pure, ◌>>=◌}
-use Rattle.odc_program.specs.Bytes.{Pointer, nil, Value, number_of, int_of, pointer_of, procedure_of, piece}
-use Rattle.odc_program.specs.Tree.{in_order}
-use Rattle.odc_program.specs.Program as q
-use Rattle.odc_program.specs.State as s
-use Rattle.odc_program.specs.Places as p
-use Rattle.odc_program.specs.Operators as o
-use Rattle.odc_program.specs.Calling as c
+use Rattle.odc_program.specs.States.Run.{pure, ◌>>=◌}
+use Rattle.odc_program.specs.States.Bytes.{Pointer, nil, Value, number_of, int_of, pointer_of, procedure_of, piece}
+use Rattle.odc_program.specs.Trees.Tree.{in_order}
+use Rattle.odc_program.specs.Trees.Program as q
+use Rattle.odc_program.specs.States.State as s
+use Rattle.odc_program.specs.Kinds.Places as p
+use Rattle.odc_program.specs.Kinds.Operators as o
+use Rattle.odc_program.specs.Kinds.Calling as c
 use Rattle.odc_program.proofs.Alike as a
 use Rattle.odc_program.proofs.PlacesAlike as pl
+use Rattle.odc_program.proofs.OperatorsAlike as ol
 
 module _ (S : s.State → s.State → Type 0) (Stops : s.Leave → s.State → a.Tail → Type 0) (r : a.Alike S Stops) where
   abbrev pub Same : {A : Type 0} → s.Do A → s.Do A → Type 0
@@ -69,6 +71,15 @@ module _ (S : s.State → s.State → Type 0) (Stops : s.Leave → s.State → a
       Same (c.run_call_value x env at marked t m i) (c.run_call_value y env at marked t n j)
   calls_by_value x y k env at marked t h g = thens h (λ v. thens g (λ vs. thens (knowns at (procedure_of v)) (λ f. a.givens S Stops r (calls_found x y k env at marked t vs f))))
 
+  -- ---- parts of a value of several
+  takens : (env : s.Env) (t : ℕ) (variant : Option ℕ) (v : Value) → Same (c.taken_part env t variant v) (c.taken_part env t variant v)
+  takens env t None v = pures v
+  takens env t (Some variant) v = ol.puts S Stops r env t variant v
+
+  pub parts_taken : (env : s.Env) (ts : List Taken) (v : Value) → Same (c.taken_parts env ts v) (c.taken_parts env ts v)
+  parts_taken env [] v = pures []
+  parts_taken env (t ∷ ts) v = thens (takens env t.into.index t.variant _) (λ w. thens (parts_taken env ts _) (λ ws. pures (w ∷ ws)))
+
   -- ---- results and `or_return`
   pub results_stored : (at : Place) (env : s.Env) (i : ℕ) (v : Value) → Same (c.store_result at env i v) (c.store_result at env i v)
   results_stored at env i v = thens (pl.spot_stores S Stops r at env (env.storage i) v None) (λ d. pures tt)
@@ -84,14 +95,14 @@ module _ (S : s.State → s.State → Type 0) (Stops : s.Leave → s.State → a
 
   goings : (at : Place) (x : q.Shape) (v : Value) → Same (c.goes_on at x v) (c.goes_on at x v)
   goings at q.truth v = pl.truths S Stops r at v
-  goings at (q.names signed es) v = zero_tests at v
+  goings at (q.names width es) v = zero_tests at v
   goings at (q.variants tag ts) v = zero_tests at (piece tag 8 v)
   goings at (q.procedure odin ps rs) v = procedure_tests at v
   goings at _ v = nil_tests at (piece 0 8 v)
 
   leavings : (env : s.Env) (at : Place) (variant : Option ℕ) (vs : List Value) (b : Bool) → Same (c.or_leave env at variant vs b) (c.or_leave env at variant vs b)
   leavings env at variant vs true = pures _
-  leavings env at variant vs false = thens (results_stored at env (c.last_result env) (c.taken_part env (c.last_result_type env) variant (c.last_or [] vs))) (λ _. a.halted S Stops r s.back)
+  leavings env at variant vs false = thens (thens (takens env (c.last_result_type env) variant (c.last_or [] vs)) (λ v. results_stored at env (c.last_result env) v)) (λ _. a.halted S Stops r s.back)
 
   pub or_returns : (env : s.Env) (at : Place) (t : ℕ) (variant : Option ℕ) {m n : s.Do Value} → Same m n → Same (c.run_or_return env at t variant m) (c.run_or_return env at t variant n)
   or_returns env at t variant h = thens h (λ v. thens (goings at (s.shape_of env (c.last_or 0 (c.types_of t (s.shape_of env t)))) (c.last_or [] (c.parts_of env (c.types_of t (s.shape_of env t)) v)))

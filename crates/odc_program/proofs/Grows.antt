@@ -3,12 +3,12 @@ use Rattle.std.proofs.Common.{◌≡◌, ℕ, zero, suc, Bool, true, false, [], 
 use Rattle.std.specs.Prelude.{Option, Some, None, if◌then◌else◌, nat_le}
 use Rattle.std.proofs.lemmas.List.{append_assoc, append-nil}
 use Rattle.odc_text.specs.declared.place.Place.{Place}
-use Rattle.odc_program.specs.Run.{Res, ok, stop, pure, then_by}
-use Rattle.odc_program.specs.Bytes.{Block, to}
-use Rattle.odc_program.specs.Memory.{Memory, load, store, fits, writable}
-use Rattle.odc_program.specs.Program as t
-use Rattle.odc_program.specs.State as p
-use Rattle.odc_program.specs.Source as s
+use Rattle.odc_program.specs.States.Run.{Res, ok, stop, pure, then_by}
+use Rattle.odc_program.specs.States.Bytes.{Block, to}
+use Rattle.odc_program.specs.States.Memory.{Memory, load, store, fits, writable}
+use Rattle.odc_program.specs.Trees.Program as t
+use Rattle.odc_program.specs.States.State as p
+use Rattle.odc_program.specs.Runs.Source as s
 use Rattle.odc_program.specs.Laws.{Grown, GrownTo}
 use Rattle.odc_program.proofs.Alike as a
 use Rattle.odc_program.proofs.StatementsAlike as b

@@ -1,22 +1,23 @@
 -- Operators, conversions, unions and printing keep what the primitives keep.
 use Rattle.std.proofs.Common.{ℕ, Bool, true, false, List, [], ◌∷◌}
-use Rattle.std.specs.Prelude.{ℤ, pos, Option, if◌then◌else◌, ◌==◌, ◌&&◌, int_div, int_rem, length, map, min}
+use Rattle.std.specs.Prelude.{ℤ, pos, Option, if◌then◌else◌, ◌==◌, ◌&&◌, ◌++◌, int_div, int_rem, length, map, min}
 use Rattle.std.specs.Ordering.{int_eq}
 use Rattle.odc_text.specs.declared.place.Place.{Place}
 use Rattle.odc_text.specs.declared.check.Check.{Check}
 use Rattle.odc_text.specs.declared.check.Check.TheVariants as check
 use Rattle.odc_text.specs.Run.{out}
+use Rattle.odc_types.specs.Widths.{is_signed}
 use Rattle.odc_program.specs.declared.ops.UnaryOp.{UnaryOp}
 use Rattle.odc_program.specs.declared.ops.UnaryOp.TheVariants as un
 use Rattle.odc_program.specs.declared.ops.BinaryOp.{BinaryOp}
 use Rattle.odc_program.specs.declared.ops.BinaryOp.TheVariants as op
-use Rattle.odc_program.specs.Run.{pure, ◌>>=◌, moved}
-use Rattle.odc_program.specs.Bytes.{Value, number_of, int_bytes, int_of, truth_bytes, pointer_of, procedure_of, piece}
-use Rattle.odc_program.specs.Program as q
-use Rattle.odc_program.specs.State as s
-use Rattle.odc_program.specs.Places as p
-use Rattle.odc_program.specs.Operators as o
-use Rattle.odc_program.specs.Printing as w
+use Rattle.odc_program.specs.States.Run.{pure, ◌>>=◌, moved}
+use Rattle.odc_program.specs.States.Bytes.{Value, number_of, zeros, int_bytes, int_of, truth_bytes, pointer_of, procedure_of, piece}
+use Rattle.odc_program.specs.Trees.Program as q
+use Rattle.odc_program.specs.States.State as s
+use Rattle.odc_program.specs.Kinds.Places as p
+use Rattle.odc_program.specs.Kinds.Operators as o
+use Rattle.odc_program.specs.Kinds.Printing as w
 use Rattle.odc_program.proofs.Alike as a
 use Rattle.odc_program.proofs.PlacesAlike as pl
 
@@ -99,9 +100,9 @@ module _ (S : s.State → s.State → Type 0) (Stops : s.Leave → s.State → a
   numbers_by at x size y z = thens (knowns at y) (λ y. thens (knowns at z) (λ z. calculates at x size y z))
 
   by_shapes : (env : s.Env) (at : Place) (x : BinaryOp) (size : ℕ) (y : q.Shape) (v w : Value) → Same (o.by_shape env at x size y v w) (o.by_shape env at x size y v w)
-  by_shapes env at x size (q.whole signed) v w = numbers_by at x size (int_of signed size v) (int_of signed size w)
+  by_shapes env at x size (q.whole width) v w = numbers_by at x size (int_of (is_signed width) size v) (int_of (is_signed width) size w)
   by_shapes env at x size q.rune v w = numbers_by at x size (int_of true size v) (int_of true size w)
-  by_shapes env at x size (q.names signed es) v w = numbers_by at x size (int_of signed size v) (int_of signed size w)
+  by_shapes env at x size (q.names width es) v w = numbers_by at x size (int_of (is_signed width) size v) (int_of (is_signed width) size w)
   by_shapes env at x size q.truth v w = numbers_by at x size (int_of false size v) (int_of false size w)
   by_shapes env at x size q.text v w = texts at x v w
   by_shapes env at x size q.raw v w = address_values at x v w
@@ -173,8 +174,11 @@ module _ (S : s.State → s.State → Type 0) (Stops : s.Leave → s.State → a
   pub converts : (env : s.Env) (at : Place) (u t : ℕ) {m n : s.Do Value} → Same m n → Same (o.run_convert env at u t m) (o.run_convert env at u t n)
   converts env at u t h = thens h (λ v. conversions env at u t (o.IsWhole (s.shape_of env u) && o.IsWhole (s.shape_of env t)) v)
 
+  pub puts : (env : s.Env) (t variant : ℕ) (v : Value) → Same (o.put_in env t variant v) (o.put_in env t variant v)
+  puts env t variant v = thens (r.spends _) (λ _. pures (o.injected env t variant v))
+
   pub injects : (env : s.Env) (t variant : ℕ) {m n : s.Do Value} → Same m n → Same (o.run_inject env t variant m) (o.run_inject env t variant n)
-  injects env t variant h = thens h (λ v. pures _)
+  injects env t variant h = a.givens S Stops r (thens h (λ v. puts env t variant v))
 
   pub tags : (env : s.Env) (at : Place) (t : ℕ) (v : Value) → Same (o.tag_of env at t v) (o.tag_of env at t v)
   tags env at t v = knowns at (number_of (piece (o.tag_offset (s.shape_of env t)) 8 v))
@@ -182,11 +186,22 @@ module _ (S : s.State → s.State → Type 0) (Stops : s.Leave → s.State → a
   pub helds : (env : s.Env) (at : Place) (t : ℕ) (v : Value) → Same (o.held env at t v) (o.held env at t v)
   helds env at t v = pl.as_reads S Stops r at (s.shape_of env t) (piece 0 (s.size_of env t) v)
 
+  holdings : (env : s.Env) (at : Place) (t variant : ℕ) (v : Value) → Same (o.holds env at t variant v) (o.holds env at t variant v)
+  holdings env at t variant v = thens (tags env at t v) (λ k. thens (r.spends 1) (λ _. pures (k == variant)))
+
+  outcomes : (env : s.Env) (at : Place) (t : ℕ) (v : Value) (b : Bool) → Same (o.asserted env at t v b) (o.asserted env at t v b)
+  outcomes env at t v true = helds env at t v
+  outcomes env at t v false = fails check.Assertion at
+
+  pairs : (env : s.Env) (at : Place) (t : ℕ) (v : Value) (b : Bool) → Same (o.tested env at t v b) (o.tested env at t v b)
+  pairs env at t v true = thens (helds env at t v) (λ w. pures _)
+  pairs env at t v false = thens (r.spends (moved (s.size_of env t))) (λ _. pures (zeros (s.size_of env t) ++ truth_bytes false))
+
   pub asserts : (env : s.Env) (at : Place) (union_ty t variant : ℕ) {m n : s.Do Value} → Same m n → Same (o.run_assert env at union_ty t variant m) (o.run_assert env at union_ty t variant n)
-  asserts env at union_ty t variant h = thens h (λ v. thens (tags env at union_ty v) (λ k. ifs (k == variant) (thens (helds env at t v) (λ w. pures _)) (fails check.Assertion at)))
+  asserts env at union_ty t variant h = a.givens S Stops r (thens h (λ v. thens (holdings env at union_ty variant v) (λ b. outcomes env at t v b)))
 
   pub tests : (env : s.Env) (at : Place) (union_ty t variant : ℕ) {m n : s.Do Value} → Same m n → Same (o.run_test env at union_ty t variant m) (o.run_test env at union_ty t variant n)
-  tests env at union_ty t variant h = thens h (λ v. thens (tags env at union_ty v) (λ k. ifs (k == variant) (thens (helds env at (o.first_type (s.shape_of env t)) v) (λ w. pures _)) (pures _)))
+  tests env at union_ty t variant h = a.givens S Stops r (thens h (λ v. thens (holdings env at union_ty variant v) (λ b. pairs env at (o.first_type (s.shape_of env t)) v b)))
 
   -- ---- printing
   pub prints : (bytes : List ℕ) → Same (w.print bytes) (w.print bytes)
@@ -198,9 +213,9 @@ module _ (S : s.State → s.State → Type 0) (Stops : s.Leave → s.State → a
 
   shapes : (at : Place) (n : ℕ) (x : q.Shape) (v : Value) → Same (w.print_shaped at n x v) (w.print_shaped at n x v)
   shapes at n q.truth v = thens (truths at v) (λ b. prints (w.truth_text b))
-  shapes at n (q.whole signed) v = thens (knowns at (int_of signed n v)) (λ z. prints (w.int_text z))
+  shapes at n (q.whole width) v = thens (knowns at (int_of (is_signed width) n v)) (λ z. prints (w.int_text z))
   shapes at n q.rune v = thens (knowns at (int_of true n v)) (λ z. prints (w.rune_text z))
-  shapes at n (q.names signed es) v = thens (knowns at (int_of signed n v)) (λ z. names es z)
+  shapes at n (q.names width es) v = thens (knowns at (int_of (is_signed width) n v)) (λ z. names es z)
   shapes at n q.text v = thens (texts_read at v) (λ bytes. prints bytes)
   shapes at n _ v = strays at
 

@@ -4,12 +4,13 @@ use Rattle.std.specs.Prelude.{ℤ, pos, Option, Some, None, if◌then◌else◌,
 use Rattle.odc_text.specs.declared.place.Place.{Place}
 use Rattle.odc_text.specs.declared.check.Check.{Check}
 use Rattle.odc_text.specs.declared.check.Check.TheVariants as check
-use Rattle.odc_program.specs.Run.{pure, ◌>>=◌, moved}
-use Rattle.odc_program.specs.Bytes.{Pointer, nil, to, Value, number_of, zeros, int_bytes, int_of, truth_bytes, pointer_bytes, pointer_of, piece, patched}
-use Rattle.odc_program.specs.Program as q
-use Rattle.odc_program.specs.Layouts as l
-use Rattle.odc_program.specs.State as s
-use Rattle.odc_program.specs.Places as p
+use Rattle.odc_types.specs.Widths.{is_signed}
+use Rattle.odc_program.specs.States.Run.{pure, ◌>>=◌, moved}
+use Rattle.odc_program.specs.States.Bytes.{Pointer, nil, to, Value, number_of, zeros, int_bytes, int_of, truth_bytes, pointer_bytes, pointer_of, piece, patched}
+use Rattle.odc_program.specs.Trees.Program as q
+use Rattle.odc_program.specs.Kinds.Layouts as l
+use Rattle.odc_program.specs.States.State as s
+use Rattle.odc_program.specs.Kinds.Places as p
 use Rattle.odc_program.proofs.Alike as a
 
 module _ (S : s.State → s.State → Type 0) (Stops : s.Leave → s.State → a.Tail → Type 0) (r : a.Alike S Stops) where
@@ -84,6 +85,18 @@ module _ (S : s.State → s.State → Type 0) (Stops : s.Leave → s.State → a
   pub as_spots : (at : Place) {m n : s.Do s.Base} → Same m n → Same (p.as_spot at m) (p.as_spot at n)
   as_spots at h = thens h (λ b. base_spots at b)
 
+  pieces_found : (at : Place) (ps : List s.Piece) → Same (p.found_pieces at ps) (p.found_pieces at ps)
+  pieces_found at [] = pures []
+  pieces_found at (x ∷ ps) = thens (a.behinds S Stops r at x.start x.move) (λ b. thens (pieces_found at ps) (λ qs. pures _))
+
+  founds : (at : Place) (x : s.Spot) → Same (p.found at x) (p.found at x)
+  founds at (s.spot b) = pures (s.spot b)
+  founds at (s.in_context o) = pures (s.in_context o)
+  founds at (s.rows ps) = thens (pieces_found at ps) (λ qs. pures (s.rows qs))
+
+  pub as_lefts : (at : Place) {m n : s.Do s.Base} → Same m n → Same (p.as_left at m) (p.as_left at n)
+  as_lefts at h = thens (as_spots at h) (λ x. founds at x)
+
   -- ---- fields and dereferences
   spot_behinds : (at : Place) (x : s.Spot) (d : ℕ) → Same (p.spot_behind at x d) (p.spot_behind at x d)
   spot_behinds at (s.spot b) d = thens (a.behinds S Stops r at b d) (λ q. pures (s.spot q))
@@ -148,9 +161,9 @@ module _ (S : s.State → s.State → Type 0) (Stops : s.Leave → s.State → a
   elements env at t b = element_ins env at t (s.shape_of env t) b
 
   wholes_by : (at : Place) (size : ℕ) (x : q.Shape) (v : Value) → Same (p.whole_by at size x v) (p.whole_by at size x v)
-  wholes_by at size (q.whole signed) v = knowns at (int_of signed size v)
+  wholes_by at size (q.whole width) v = knowns at (int_of (is_signed width) size v)
   wholes_by at size q.rune v = knowns at (int_of true size v)
-  wholes_by at size (q.names signed es) v = knowns at (int_of signed size v)
+  wholes_by at size (q.names width es) v = knowns at (int_of (is_signed width) size v)
   wholes_by at size _ v = strays at
 
   pub wholes : (env : s.Env) (at : Place) (t : ℕ) (v : Value) → Same (p.whole_of env at t v) (p.whole_of env at t v)

@@ -1,16 +1,16 @@
 -- The kinds of statements keep what the primitives keep.
 use Rattle.std.proofs.Common.{ℕ, zero, suc, Bool, true, false, List, [], ◌∷◌, refl}
-use Rattle.std.specs.Prelude.{pos, ◌&&◌, int_le, int_lt, Option, Some, None, if◌then◌else◌, ◌+◌, drop}
+use Rattle.std.specs.Prelude.{pos, ◌&&◌, ◌==◌, int_le, int_lt, Option, Some, None, if◌then◌else◌, ◌+◌, drop}
 use Rattle.odc_text.specs.declared.place.Place.{Place}
 use Rattle.odc_text.specs.declared.check.Check.{Check}
 use Rattle.odc_text.specs.Run.{going}
 use Rattle.odc_program.specs.declared.ops.BinaryOp.{BinaryOp}
 use Rattle.odc_program.specs.declared.ops.BinaryOp.TheVariants as op
-use Rattle.odc_program.specs.Run.{Res, ok, stop, pure, halt, ◌>>=◌}
-use Rattle.odc_program.specs.Bytes.{Value, zeros, int_bytes}
-use Rattle.odc_program.specs.State as s
-use Rattle.odc_program.specs.Places as p
-use Rattle.odc_program.specs.Statements as t
+use Rattle.odc_program.specs.States.Run.{Res, ok, stop, pure, halt, ◌>>=◌}
+use Rattle.odc_program.specs.States.Bytes.{Value, zeros, int_bytes}
+use Rattle.odc_program.specs.States.State as s
+use Rattle.odc_program.specs.Kinds.Places as p
+use Rattle.odc_program.specs.Runs.Statements as t
 use Rattle.odc_program.proofs.Alike as a
 use Rattle.odc_program.proofs.PlacesAlike as pl
 use Rattle.odc_program.proofs.OperatorsAlike as ol
@@ -182,9 +182,9 @@ module _ (S : s.State → s.State → Type 0) (Stops : s.Leave → s.State → a
   element_reads env at true e b = pures b
   element_reads env at false e b = a.givens S Stops r (pl.value_ins S Stops r env at e b)
 
-  pub throughs : (env : s.Env) (at : Place) (ty i l : ℕ) (x y : Option ℕ) (by_place : Bool) {m n : s.Do s.Base} {f g : s.Env → t.Part} → Same m n → ((e : s.Env) → SamePart (f e) (g e)) → (c : s.Context) →
-      Same (t.run_through env at ty i l x y by_place m f c) (t.run_through env at ty i l x y by_place n g c)
-  throughs env at ty i l x y by_place h g c = thens h (λ b. thens (pl.elements S Stops r env at ty b) (λ es.
+  pub throughs : (env : s.Env) (at from : Place) (ty i l : ℕ) (x y : Option ℕ) (by_place : Bool) {m n : s.Do s.Base} {f g : s.Env → t.Part} → Same m n → ((e : s.Env) → SamePart (f e) (g e)) → (c : s.Context) →
+      Same (t.run_through env at from ty i l x y by_place m f c) (t.run_through env at from ty i l x y by_place n g c)
+  throughs env at from ty i l x y by_place h g c = thens h (λ b. thens (pl.elements S Stops r env from ty b) (λ es.
       (each_turns l (p.natural es.count) 0 _ (λ k. thens (pl.element_found S Stops r at (pos k) es) (λ e. element_reads env at by_place i e)) (beguns env x y g by_place)).by c))
 
   -- ---- switches
@@ -238,7 +238,7 @@ module _ (S : s.State → s.State → Type 0) (Stops : s.Leave → s.State → a
 
   ones : (k : ℕ) (ts : List ℕ) → Same (t.one_of k ts) (t.one_of k ts)
   ones k [] = pures false
-  ones k (x ∷ ts) = tried (pures _) (ones k ts)
+  ones k (x ∷ ts) = tried (thens (r.spends 1) (λ _. pures (k == x))) (ones k ts)
 
   pub variant_tests : (env : s.Env) (at : Place) (ty : ℕ) (ts : List ℕ) (v : Option Value) → Same (t.tag_test env at ty ts v) (t.tag_test env at ty ts v)
   variant_tests env at ty ts None = pures false

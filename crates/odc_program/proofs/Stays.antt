@@ -3,12 +3,12 @@ use Rattle.std.proofs.Common.{◌≡◌, ℕ, zero, suc, Bool, true, false, List
 use Rattle.std.specs.Prelude.{Option, Some, None, ◌+◌, ◌≤◌, take, drop, min, length, if◌then◌else◌, nat_le}
 use Rattle.odc_text.specs.declared.place.Place.{Place}
 use Rattle.odc_text.specs.Run.{End, exited, checked, strayed, trapped, going}
-use Rattle.odc_program.specs.Run.{Res, ok, stop, pure, then_by}
-use Rattle.odc_program.specs.Bytes.{Block, to, Value}
-use Rattle.odc_program.specs.Memory.{Memory, load, store, fits, writable, open_block, close, close_from}
-use Rattle.odc_program.specs.Program as t
-use Rattle.odc_program.specs.State as p
-use Rattle.odc_program.specs.Source as s
+use Rattle.odc_program.specs.States.Run.{Res, ok, stop, pure, then_by}
+use Rattle.odc_program.specs.States.Bytes.{Block, to, Value}
+use Rattle.odc_program.specs.States.Memory.{Memory, load, store, fits, writable, open_block, close, close_from}
+use Rattle.odc_program.specs.Trees.Program as t
+use Rattle.odc_program.specs.States.State as p
+use Rattle.odc_program.specs.Runs.Source as s
 use Rattle.odc_program.proofs.Alike as a
 use Rattle.odc_program.proofs.StatementsAlike as b
 use Rattle.odc_program.proofs.Whole as w

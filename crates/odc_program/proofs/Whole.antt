@@ -7,16 +7,16 @@ use Rattle.odc_text.specs.declared.check.Check.TheVariants as check
 use Rattle.odc_text.specs.Run.{going}
 use Rattle.odc_program.specs.declared.ops.Builtin.{Builtin}
 use Rattle.odc_program.specs.declared.ops.Builtin.TheVariants as bi
-use Rattle.odc_program.specs.Run.{pure, ◌>>=◌}
-use Rattle.odc_program.specs.Bytes.{Value, zeros}
-use Rattle.odc_program.specs.Tree as t
-use Rattle.odc_program.specs.Program as q
-use Rattle.odc_program.specs.State as s
-use Rattle.odc_program.specs.Places as p
-use Rattle.odc_program.specs.Calling as c
-use Rattle.odc_program.specs.Expressions as e
-use Rattle.odc_program.specs.Statements as f
-use Rattle.odc_program.specs.Source as x
+use Rattle.odc_program.specs.States.Run.{pure, ◌>>=◌}
+use Rattle.odc_program.specs.States.Bytes.{Value, zeros}
+use Rattle.odc_program.specs.Trees.Tree as t
+use Rattle.odc_program.specs.Trees.Program as q
+use Rattle.odc_program.specs.States.State as s
+use Rattle.odc_program.specs.Kinds.Places as p
+use Rattle.odc_program.specs.Kinds.Calling as c
+use Rattle.odc_program.specs.Kinds.Expressions as e
+use Rattle.odc_program.specs.Runs.Statements as f
+use Rattle.odc_program.specs.Runs.Source as x
 use Rattle.odc_program.proofs.Alike as a
 use Rattle.odc_program.proofs.PlacesAlike as pl
 use Rattle.odc_program.proofs.OperatorsAlike as ol
@@ -165,12 +165,12 @@ module _ (S : s.State → s.State → Type 0) (Stops : s.Leave → s.State → a
 
     rights : (env : s.Env) (v : t.Rights) → Same (x.rights_of y env v) (x.rights_of z env v)
     rights env (t.each es) = many env es
-    rights env (t.parted ts n) = thens (values env n) (λ v. pures (c.taken_parts env ts v))
+    rights env (t.parted ts n) = thens (values env n) (λ v. cl.parts_taken S Stops r env ts v)
     rights env t.nothing = pures []
 
     places : (env : s.Env) (ls : t.Lefts) → Same (x.places_of y env ls) (x.places_of z env ls)
     places env t.no_lefts = pures []
-    places env (t.left_ n ls) = thens (pl.as_spots S Stops r (t.at_of n) (bases env n)) (λ i. thens (places env ls) (λ is. pures (Some i ∷ is)))
+    places env (t.left_ n ls) = thens (pl.as_lefts S Stops r (t.at_of n) (bases env n)) (λ i. thens (places env ls) (λ is. pures (Some i ∷ is)))
     places env (t.dropped ls) = thens (places env ls) (λ is. pures (None ∷ is))
 
     conditions : (env : s.Env) (m : t.Maybe) → Same (x.condition_of y env m) (x.condition_of z env m)
@@ -214,7 +214,7 @@ module _ (S : s.State → s.State → Type 0) (Stops : s.Leave → s.State → a
         form env at (t.if_ init i body other) c = (b.conditionals S Stops r (maybe env init) (λ d. truths_of (s.in_context_of env d) i) (execs env body) (execs env other)).by c
         form env at (t.loop l init i post body) c = (b.loops S Stops r n m l g (maybe env init) (λ d. conditions (s.in_context_of env d) i) (maybe env post) (execs env body)).by c
         form env at (t.range l (t.from_to i j closed) h k body) c = b.spans S Stops r env at (t.ty i) l h k closed (values (s.in_context_of env c) i) (values (s.in_context_of env c) j) (λ env. execs env body) c
-        form env at (t.range l (t.through i by_place) h k body) c = b.throughs S Stops r env at (t.ty i) (x.element_type (s.shape_of env (t.ty i))) l h k by_place (bases (s.in_context_of env c) i) (λ env. execs env body) c
+        form env at (t.range l (t.through i by_place) h k body) c = b.throughs S Stops r env at (t.at_of i) (t.ty i) (x.element_type (s.shape_of env (t.ty i))) l h k by_place (bases (s.in_context_of env c) i) (λ env. execs env body) c
         form env at (t.switch l init i cs) c = (b.headers S Stops r (maybe env init) (record { by = λ d. (b.cases S Stops r l (λ e. subjects (s.in_context_of env e) i) (case_tests (s.in_context_of env d) cs) (bodies env cs)).by d })).by c
         form env at (t.type_switch l i cs) c = (b.type_cases S Stops r l (λ d. values (s.in_context_of env d) i) (tag_tests env at (t.ty i) cs) (type_bodies env at cs)).by c
         form env at (t.defer i) c = (exec env i).by c
@@ -298,4 +298,4 @@ module _ (S : s.State → s.State → Type 0) (Stops : s.Leave → s.State → a
   }
 
   pub runs : (p : q.Program) (n m : ℕ) → b.Fuels Stops n m → Same (x.main_run p n) (x.main_run p m)
-  runs p n m g = enters (x.calls_of p n) (x.calls_of p m) (calls p n m g) n m g p.tables p.main (slice_get p.tables.procedures p.main) (slice_get p.bodies p.main) [] (Some p.tables.first) x.stack_end
+  runs p n m g = enters (x.calls_of p n) (x.calls_of p m) (calls p n m g) n m g p.tables p.main (slice_get p.tables.procedures p.main) (slice_get p.bodies p.main) [] (Some (s.first_context p.tables)) x.stack_end

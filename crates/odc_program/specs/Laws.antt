@@ -1,11 +1,11 @@
 -- What holds of all runs.
 use Rattle.std.specs.Prelude.{◌≡◌, ℕ, ◌≤◌, List, ◌++◌}
 use Rattle.odc_text.specs.Run.{End, going, Entry}
-use Rattle.odc_program.specs.Run.{Res, ok, stop}
-use Rattle.odc_program.specs.Bytes.{Pointer}
-use Rattle.odc_program.specs.Program.{Program}
-use Rattle.odc_program.specs.State.{State, Leave}
-use Rattle.odc_program.specs.Source.{source, main_run}
+use Rattle.odc_program.specs.States.Run.{Res, ok, stop}
+use Rattle.odc_program.specs.States.Bytes.{Pointer}
+use Rattle.odc_program.specs.Trees.Program.{Program}
+use Rattle.odc_program.specs.States.State.{State, Leave}
+use Rattle.odc_program.specs.Runs.Source.{source, main_run}
 
 -- it has exited, stopped at a check, or strayed
 abbrev pub HasStopped : End → Type 0

@@ -1,18 +1,23 @@
 //! Closed runs of small programs: what each prints, how it ends, what it costs and how many turns it takes.
 
-ghost use Rattle.std.specs.Prelude.{◌≡◌, ℕ, pos, List, [], ◌∷◌, ◌++◌, map, replicate, true, false, codes};
+ghost use Rattle.std.specs.Prelude.{◌≡◌, ℕ, pos, List, [], ◌∷◌, ◌++◌, map, replicate, true, false, Some, None, codes};
 ghost use Rattle.odc_text.specs.Run.{exited, checked, strayed, going, out, err};
 ghost use Rattle.odc_text.specs.declared.check.Check.TheVariants as check;
-ghost use Rattle.odc_program.specs.Well.{well};
-ghost use Rattle.odc_program.specs.Told.{told, asked, Prints, Leaves};
-ghost use Rattle.odc_program.specs.Bytes.{global, nil, to};
+ghost use Rattle.odc_program.specs.Typing.Well.{well, has_runtime};
+ghost use Rattle.odc_program.specs.Typing.Frames.{framed};
+ghost use Rattle.odc_program.specs.Rows.Told.{told, asked, Prints, Leaves};
+ghost use Rattle.odc_program.specs.States.Bytes.{global, nil, to};
 ghost use Rattle.odc_program.specs.Laws.{StoppedStays, OnlyGrows};
-ghost use Rattle.odc_program.specs.Writing.{at};
-ghost use Rattle.odc_program.specs.Tree as tree;
-ghost use Rattle.odc_program.specs.First as first;
-ghost use Rattle.odc_program.specs.Second as second;
-ghost use Rattle.odc_program.specs.Third as third;
-ghost use Rattle.odc_program.specs.Ill as ill;
+ghost use Rattle.odc_program.specs.Rows.Writing.{at, zero, show, set, num, context_index, Plain};
+ghost use Rattle.odc_program.specs.Trees.Tree as tree;
+ghost use Rattle.odc_program.specs.Rows.First as first;
+ghost use Rattle.odc_program.specs.Rows.Second as second;
+ghost use Rattle.odc_program.specs.Rows.Third as third;
+ghost use Rattle.odc_program.specs.Rows.Columns as columns;
+ghost use Rattle.odc_program.specs.Rows.Asking as asking;
+ghost use Rattle.odc_program.specs.Rows.Orders as orders;
+ghost use Rattle.odc_program.specs.Rows.Framed.{frames, nodes, with_frames};
+ghost use Rattle.odc_program.specs.Rows.Ill as ill;
 
 /// An `i8` wraps.
 pub fn wraps()
@@ -51,7 +56,7 @@ pub fn defers_before_return()
 
 /// A nil union takes the default case, and an assertion on it stops.
 pub fn nil_union()
-    ensures { Prints first.nil_union (codes "none\n") (checked check.Assertion (at 110)) 29 0 }
+    ensures { Prints first.nil_union (codes "none\n") (checked check.Assertion (at 110)) 31 0 }
 {}
 
 /// A run that has stopped stays as it is at every greater bound.
@@ -96,12 +101,12 @@ pub fn spans()
 
 /// The name of a case of a type switch is what the union holds.
 pub fn variant()
-    ensures { Prints second.variant (codes "5\n") (exited 0) 19 0 }
+    ensures { Prints second.variant (codes "5\n") (exited 0) 23 0 }
 {}
 
 /// A test of a union gives what it holds, or zero.
 pub fn tested()
-    ensures { Prints second.tested (codes "7 true\n false\n") (exited 0) 50 0 }
+    ensures { Prints second.tested (codes "7 true\n false\n") (exited 0) 57 0 }
 {}
 
 /// Results are stored before deferred statements run, and answered behind them.
@@ -316,7 +321,7 @@ pub fn soa_appends()
 
 /// Its growth asks for new storage, copies the columns, and gives the old one back.
 pub fn soa_grows()
-    ensures { Leaves third.soa_grows (asked 1 (pos 0) (pos 216) (pos 8) nil (pos 0) ∷ asked 1 (pos 1) (pos 0) (pos 0) (to (global 1342177280 0) 0) (pos 72) ∷ map out (codes "9 0 9 24\n")) (exited 0) 173 2 }
+    ensures { Leaves third.soa_grows (asked 1 (pos 0) (pos 216) (pos 8) nil (pos 0) ∷ asked 1 (pos 1) (pos 0) (pos 0) (to (global 1342177280 0) 0) (pos 72) ∷ map out (codes "9 11 18 1 8 9 24\n")) (exited 0) 208 2 }
 {}
 
 /// `new` asks the allocator of the context.
@@ -356,7 +361,7 @@ pub fn over_slice()
 
 /// A default case may stand before the others.
 pub fn default_first()
-    ensures { Prints second.default_first (codes "9\n") (exited 0) 17 0 }
+    ensures { Prints second.default_first (codes "9\n") (exited 0) 21 0 }
 {}
 
 /// A negative length stops.
@@ -399,6 +404,116 @@ pub fn cut_too_far()
     ensures { Prints third.cut_too_far [] (checked check.Slice (at 30)) 5 0 }
 {}
 
+/// An element is removed from each column.
+pub fn columns_close_up()
+    ensures { Prints columns.removes (codes "2 30 2\n") (exited 0) 75 0 }
+{}
+
+/// The last element of each column moves into the place.
+pub fn columns_move_last()
+    ensures { Prints columns.removes_unordered (codes "3 20 2\n") (exited 0) 73 0 }
+{}
+
+/// The last record is taken out of its columns.
+pub fn columns_pop()
+    ensures { Prints columns.pops (codes "30 2\n") (exited 0) 55 0 }
+{}
+
+/// A slice of a container in columns has an address for each of them.
+pub fn columns_cut()
+    ensures { Prints columns.cuts (codes "20 2\n") (exited 0) 59 0 }
+{}
+
+/// A copy between such slices moves each column as if through a copy.
+pub fn columns_copied()
+    ensures { Prints columns.copies (codes "2\n2 30\n") (exited 0) 80 0 }
+{}
+
+/// The columns of an assigned element are found with its place, and a run strays there where one isn't there.
+pub fn place_not_found()
+    ensures { Prints columns.place_not_found [] (strayed (at 60)) 40 0 }
+{}
+
+/// A growth by `resize` asks the kept allocator, and zeroes the elements for which there was room.
+pub fn resizes_beyond()
+    ensures { Leaves asking.resizes (asked 1 (pos 3) (pos 40) (pos 8) (to (global 1342177280 0) 0) (pos 24) ∷ map out (codes "5 5 0 72340172838076673\n")) (exited 0) 115 1 }
+{}
+
+/// Fewer bytes than asked are want of memory.
+pub fn answers_less()
+    ensures { Leaves asking.answers_less (asked 1 (pos 0) (pos 8) (pos 8) nil (pos 0) ∷ map out (codes "Out_Of_Memory\n")) (exited 0) 52 1 }
+{}
+
+/// An allocator call takes its turn, stands in the log, and then meets the stack check.
+pub fn no_stack()
+    ensures { Leaves asking.no_stack (asked 1 (pos 2) (pos 0) (pos 0) nil (pos 0) ∷ []) (checked check.Stack (at 9)) 3 1 }
+{}
+
+/// Without a turn it doesn't stand in the log.
+pub fn no_turn()
+    ensures { told asking.no_stack [] 0 ≡ record { end = going; log = []; taken = 0; cost = 2; turns = 0 } }
+{}
+
+/// A marked call through a value stands in the log.
+pub fn marked()
+    ensures { Leaves asking.marked (asked 1 (pos 0) (pos 16) (pos 8) nil (pos 0) ∷ map out (codes "16 None\n")) (exited 0) 58 1 }
+{}
+
+/// The regions are bytes that begin as zeros.
+pub fn regions()
+    ensures { Prints asking.regions (codes "7 0 16777216\n1048576\n") (exited 0) 55 0 }
+{}
+
+/// A slice of raw memory lies where its address says.
+pub fn slices_raw()
+    ensures { Prints asking.slices_raw (codes "9 3\n") (exited 0) 31 0 }
+{}
+
+/// `os.read` needs all of its room, and takes no input where that isn't there.
+pub fn reads_outside()
+    ensures { told asking.reads_outside (97 ∷ 98 ∷ []) 100 ≡ record { end = strayed (at 20); log = []; taken = 0; cost = 15; turns = 0 } }
+{}
+
+/// A callee that stops does so before its arguments are evaluated.
+pub fn callee_first()
+    ensures { Prints orders.callee_first [] (checked check.Nil (at 60)) 7 0 }
+{}
+
+/// An assignment with an operator finds its place once.
+pub fn finds_once()
+    ensures { Prints orders.finds_once (codes "4\n5\n") (exited 0) 30 1 }
+{}
+
+/// And reads it before its right side is evaluated.
+pub fn reads_first()
+    ensures { Prints orders.reads_first (codes "5\n") (exited 0) 21 1 }
+{}
+
+/// The ends of a range are read once.
+pub fn ends_once()
+    ensures { Prints orders.ends_once (codes "0\n1\n") (exited 0) 31 2 }
+{}
+
+/// A part of several becomes a variant where it is stored in a union.
+pub fn becomes_variant()
+    ensures { Prints orders.becomes_variant (codes "7\n") (exited 0) 41 0 }
+{}
+
+/// The nodes of procedures: expressions, statements and variables.
+pub fn nodes_counted()
+    ensures { nodes first.wraps ++ nodes third.pops ≡ 9 ∷ 18 ∷ [] }
+{}
+
+/// The sizes of frames, as the trees of procedures give them.
+pub fn frames_sized()
+    ensures { frames first.wraps ++ frames first.past_the_end ++ frames first.nil_union ++ frames second.tested ++ frames third.pops ++ frames second.named ≡ 1472 ∷ 2016 ∷ 2528 ∷ 3456 ∷ 2816 ∷ 944 ∷ 1232 ∷ 1072 ∷ 1072 ∷ [] }
+{}
+
+/// Programs whose frames are those of their trees, or aren't.
+pub fn frames_tested()
+    ensures { map framed (with_frames (1472 ∷ []) first.wraps ∷ with_frames (944 ∷ 1232 ∷ 1072 ∷ 1072 ∷ []) second.named ∷ with_frames (1488 ∷ []) first.wraps ∷ with_frames (528 ∷ []) ill.too_near ∷ []) ≡ true ∷ true ∷ false ∷ false ∷ [] }
+{}
+
 /// Small programs that are well.
 pub fn first_are_well()
     ensures { map well (first.wraps ∷ first.divides ∷ first.past_the_end ∷ first.late_check ∷ first.restored ∷ first.defers_in_loop (tree.break_ 7) ∷ first.nil_union ∷ []) ≡ replicate 7 true }
@@ -411,7 +526,18 @@ pub fn second_are_well()
 
 /// More of them, with containers in columns and allocators.
 pub fn third_are_well()
-    ensures { map well (third.in_columns ∷ third.loops_in_columns ∷ third.frees ∷ third.makes ∷ third.frees_all ∷ third.over_slice ∷ third.news ∷ third.negative ∷ third.negative_room ∷ third.too_long ∷ third.none_there ∷ third.out_of_memory ∷ third.copies ∷ third.cut_too_far ∷ ill.distinct_pointer ∷ []) ≡ replicate 15 true }
+    ensures { map well (third.in_columns ∷ third.loops_in_columns ∷ third.frees ∷ third.makes ∷ third.frees_all ∷ third.over_slice ∷ third.news ∷ third.negative ∷ third.negative_room ∷ third.too_long ∷ third.none_there ∷ third.out_of_memory ∷ third.copies ∷ third.cut_too_far ∷ ill.distinct_pointer ∷ ill.in_columns_of 16 ∷ []) ≡ replicate 16 true }
+{}
+
+/// And these: with regions and raw memory, orders of evaluation, and marked calls.
+pub fn others_are_well()
+    ensures { map well (asking.answers_less ∷ asking.marked ∷ asking.regions ∷ asking.slices_raw ∷ asking.reads_outside ∷ orders.callee_first ∷ orders.finds_once ∷ orders.reads_first ∷ orders.ends_once ∷ orders.becomes_variant ∷ []) ≡ replicate 10 true }
+{}
+
+/// And some more: switches that cover an enum, by a span and a default, or a union; results and elements that are assigned;
+/// a contextless procedure that assigns a context; a struct that points to itself.
+pub fn covering_are_well()
+    ensures { map well (ill.over_errors 4 tree.no_cases ∷ ill.over_errors 1 (tree.default_case tree.finish tree.no_cases) ∷ ill.over_variants (tree.type_case (2 ∷ []) None tree.finish tree.no_types) ∷ ill.over_variants (tree.default_type None tree.finish tree.no_types) ∷ ill.result_assigned ∷ ill.turn_assigned true ∷ ill.assigns_context (zero 1 ∷ ill.set_context ∷ show (context_index ∷ []) ∷ []) ∷ ill.touches_helper 3952 ∷ ill.linked ∷ ill.global_of 0 ∷ []) ≡ replicate 10 true }
 {}
 
 /// Programs that aren't well: a call through another type, labels and variables that aren't there, variables that lie
@@ -425,4 +551,27 @@ pub fn are_not_well()
 /// types that stand twice or differ from their base, and a variable where a helper's lie.
 pub fn neither_are_these()
     ensures { map well (ill.falls_out ∷ ill.returns_late ∷ ill.breaks_late ∷ ill.counts_itself ∷ ill.helper_allocates ∷ third.without_context ∷ ill.compares_slices ∷ ill.signed_count ∷ ill.lesser_rune ∷ ill.built_elsewhere ∷ ill.located_nowhere ∷ ill.distinct_of_another ∷ ill.pointer_twice ∷ ill.over_helper ∷ ill.taken_twice ∷ []) ≡ replicate 15 false }
+{}
+
+/// And more: types without a name or with another's, columns of too many fields, a label twice, a variable before and
+/// behind its scope, switches that don't cover their subject, and parameters and names of loops that are assigned.
+pub fn nor_these()
+    ensures { map well (ill.unnamed ∷ ill.named_integer ∷ ill.one_name ∷ ill.in_columns_of 17 ∷ ill.one_label ∷ ill.too_early ∷ ill.too_late ∷ ill.over_errors 3 tree.no_cases ∷ ill.over_variants tree.no_types ∷ ill.parameter_assigned ∷ ill.parameter_addressed ∷ ill.turn_assigned false ∷ []) ≡ replicate 12 false }
+{}
+
+/// A procedure that stands twice, a location whose literal is another, and a statement in a file without a path.
+pub fn nor_those()
+    ensures { map well (ill.instance_twice ∷ ill.other_path ∷ ill.stands_nowhere ∷ []) ≡ replicate 3 false }
+{}
+
+/// Contexts that aren't there, helpers that call or lie too near, allocators of another type, variables that begin twice
+/// or are others', the address of an element in columns, parts, defaults and headers that don't go together, and types
+/// that no value has.
+pub fn nor_any_of_these()
+    ensures { map well (ill.assigns_context (set context_index (num 1) ∷ []) ∷ ill.helper_calls ∷ ill.touches_helper 3960 ∷ ill.asks_another Plain ∷ ill.marked_other ∷ ill.declared_twice ∷ ill.result_declared ∷ ill.parameter_runs ∷ ill.element_addressed ∷ ill.part_twice ∷ ill.default_twice ∷ ill.header_defers ∷ ill.several_of_one ∷ ill.variable_of_several ∷ ill.too_great ∷ ill.holds_itself ∷ ill.points_to_itself ∷ ill.global_of 9 ∷ []) ≡ replicate 18 false }
+{}
+
+/// Whether the two allocator procedures of the runtime library are there.
+pub fn runtime()
+    ensures { map has_runtime (ill.with_runtime (Some 2) ∷ ill.with_runtime None ∷ ill.with_runtime (Some 0) ∷ ill.with_runtime (Some 3) ∷ []) ≡ true ∷ replicate 3 false }
 {}

@@ -17,7 +17,7 @@
 //!   are the laws of rewriting one kind of node into others.
 //! - These have no closed run: a growth by `resize`, the regions, `byte_slice` within its limits, removing from, cutting
 //!   and copying containers in columns, a marked call through a value, and an injected part of several results.
-//! - Sequencing and spending (`specs/Run`) are parametric in the state and may move below.
+//! - Sequencing and spending (`specs/States/Run`) are parametric in the state and may move below.
 //! - No function makes, copies or gives up a tree.
 #![tactic(auto)]
 

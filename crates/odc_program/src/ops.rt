@@ -1,5 +1,7 @@
 //! Operators, built-in procedures and constants of the typed tree.
 
+use odc_types::TyId;
+
 /// A prefix operator.
 #[derive(Clone, Copy)]
 pub enum UnaryOp {
@@ -113,7 +115,7 @@ pub enum Constant {
 /// variant that it becomes there, where that is a union.
 #[derive(Clone, Copy)]
 pub struct Taken {
-    pub from: u32,
-    pub into: u32,
+    pub from: TyId,
+    pub into: TyId,
     pub variant: Option<u32>,
 }

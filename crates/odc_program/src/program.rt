@@ -2,13 +2,14 @@
 
 ghost use Rattle.std.specs.Prelude.{◌≡◌, ◌↔◌, ◌++◌, [], ◌∷◌, Bool, true, List, IfOk, OnOk, All};
 ghost use Rattle.odc_program.specs.declared.program.CheckError.TheVariants.{Memory};
-ghost use Rattle.odc_program.specs.Instances.{Instance, Need, Answer, gives, FaultTold, instance, procedure};
+ghost use Rattle.odc_program.specs.Views.Instances.{Instance, Need, Answer, gives, FaultTold, instance, procedure};
 
 use crate::ops::Constant;
-use crate::tree::{TStmt, TypeId};
+use crate::tree::TStmt;
 use odc_text::code::Fault;
 use odc_text::path::PathText;
 use odc_text::place::Place;
+use odc_types::{Convention, TyId, TypeName, Width};
 use std::alloc::{AllocError, Global};
 
 /// The number of a procedure's text.
@@ -21,7 +22,7 @@ pub struct ProcId {
 #[derive(Drop)]
 pub struct Inst {
     pub proc: ProcId,
-    pub types: Vec<TypeId>,
+    pub types: Vec<TyId>,
     pub numbers: Vec<i128>,
 }
 
@@ -35,15 +36,8 @@ pub struct Need {
 /// A variable: its type, and where it lies from the low end of its frame on.
 #[derive(Clone, Copy)]
 pub struct Local {
-    pub ty: TypeId,
+    pub ty: TyId,
     pub place: u64,
-}
-
-/// Whether a procedure is passed a context.
-#[derive(Clone, Copy)]
-pub enum Convention {
-    Odin,
-    Contextless,
 }
 
 /// Code of the compiler's own beside a procedure. Its first locals are its parameters, the next ones its results.
@@ -66,7 +60,7 @@ pub struct Procedure {
     pub name_literal: u32,
     pub at: Place,
     pub convention: Convention,
-    pub ty: TypeId,
+    pub ty: TyId,
     pub params: Vec<Local>,
     pub results: Vec<Local>,
     pub locals: Vec<Local>,
@@ -80,7 +74,7 @@ pub struct Procedure {
 #[derive(Clone, Copy)]
 pub struct FieldRow {
     pub offset: u64,
-    pub ty: TypeId,
+    pub ty: TyId,
 }
 
 /// A name of an enum, and its value.
@@ -94,25 +88,24 @@ pub struct EnumeratorRow {
 #[derive(Drop)]
 pub enum TypeKind {
     Bool,
-    /// An integer, signed where the flag says so.
-    Int(bool),
+    Int(Width),
     Rune,
     Text,
     RawPtr,
-    Ptr(TypeId),
-    Array(TypeId, u64),
-    Slice(TypeId),
-    Dyn(TypeId),
-    SoaArray(TypeId, u64),
-    SoaSlice(TypeId),
-    SoaDyn(TypeId),
+    Ptr(TyId),
+    Array(TyId, u64),
+    Slice(TyId),
+    Dyn(TyId),
+    SoaArray(TyId, u64),
+    SoaSlice(TyId),
+    SoaDyn(TyId),
     Struct(Vec<FieldRow>),
     /// A union: where its tag lies, and its variants.
-    Union(u64, Vec<TypeId>),
-    Enum(bool, Vec<EnumeratorRow>),
-    Proc(Convention, Vec<TypeId>, Vec<TypeId>),
+    Union(u64, Vec<TyId>),
+    Enum(Width, Vec<EnumeratorRow>),
+    Proc(Convention, Vec<TyId>, Vec<TyId>),
     /// What an expression gives that has none or several values.
-    Several(Vec<TypeId>),
+    Several(Vec<TyId>),
 }
 
 /// A row of the table of types, with its size and alignment in bytes.
@@ -121,22 +114,27 @@ pub struct TypeRow {
     pub size: u64,
     pub align: u64,
     /// The type itself, or what a distinct type stands for.
-    pub base: TypeId,
+    pub base: TyId,
+    /// Of a struct, union, enum or distinct type.
+    pub name: Option<TypeName>,
     pub kind: TypeKind,
 }
 
-/// A global, with the constant that it starts with, as the variant of a union where it says so. One without a constant
-/// starts with zeros.
+/// A global, by the place of its name, with the constant that it starts with, as the variant of a union where it says so.
+/// One without a constant starts with zeros.
 #[derive(Clone, Copy)]
 pub struct GlobalVariable {
-    pub ty: TypeId,
+    pub at: Place,
+    pub ty: TyId,
     pub first: Option<Constant>,
     pub variant: Option<u32>,
 }
 
-/// The bytes of a literal.
+/// The bytes of a literal, and the place of its constant. A literal with the path of a file has the file with line and
+/// column 0, one with the name of a procedure its `proc` word.
 #[derive(Drop)]
 pub struct Literal {
+    pub at: Place,
     pub bytes: Vec<u8>,
 }
 
@@ -146,7 +144,7 @@ pub struct Literal {
 pub struct Runtime {
     pub heap: Option<u32>,
     pub temp: Option<u32>,
-    pub allocator: TypeId,
+    pub allocator: TyId,
     pub files: u32,
 }
 

@@ -2,19 +2,14 @@
 
 use crate::ops::{BinaryOp, Builtin, Constant, Taken, UnaryOp};
 use odc_text::place::Place;
+use odc_types::TyId;
 use std::marker::Model;
-
-/// The number of a type in the program's table.
-#[derive(Clone, Copy)]
-pub struct TypeId {
-    pub index: u32,
-}
 
 /// An expression, with its type.
 #[cycle(exprs)]
 #[derive(Drop)]
 pub struct TExpr {
-    pub ty: TypeId,
+    pub ty: TyId,
     pub at: Place,
     pub kind: Box<TExprKind>,
 }
@@ -147,43 +142,43 @@ pub struct TypeCase {
 }
 
 impl Model for TExpr {
-    ghost use Rattle.odc_program.specs.Tree as tree;
-    ghost use Rattle.odc_program.specs.Codes.{coded_expr};
+    ghost use Rattle.odc_program.specs.Trees.Tree as tree;
+    ghost use Rattle.odc_program.specs.Views.Codes.{coded_expr};
 
     ghost Value = { tree.Expr };
 
     ghost coded = { coded_expr };
 
-    ghost use Rattle.odc_program.specs.View.{expr_kind};
-    ghost use Rattle.odc_program.specs.Sizes.{expr_size};
+    ghost use Rattle.odc_program.specs.Views.View.{expr_kind};
+    ghost use Rattle.odc_program.specs.Views.Sizes.{expr_size};
 
     ghost view = { λ e. tree.expr e.ty.index e.at (expr_kind e.kind.value) };
 
     ghost size = { expr_size };
 
     ghost use Rattle.std.proofs.Common.{arith};
-    ghost use Rattle.odc_program.specs.Falls.{expr_kind_falls};
+    ghost use Rattle.odc_program.specs.Views.Falls.{expr_kind_falls};
 
     ghost size_decreases = { λ e h. omega (arith, expr_kind_falls e.kind.value) };
 }
 
 impl Model for TStmt {
-    ghost use Rattle.odc_program.specs.Tree as tree;
-    ghost use Rattle.odc_program.specs.Codes.{coded_stmt};
+    ghost use Rattle.odc_program.specs.Trees.Tree as tree;
+    ghost use Rattle.odc_program.specs.Views.Codes.{coded_stmt};
 
     ghost Value = { tree.Stmt };
 
     ghost coded = { coded_stmt };
 
-    ghost use Rattle.odc_program.specs.StmtView.{stmt_kind};
-    ghost use Rattle.odc_program.specs.Sizes.{stmt_size};
+    ghost use Rattle.odc_program.specs.Views.StmtView.{stmt_kind};
+    ghost use Rattle.odc_program.specs.Views.Sizes.{stmt_size};
 
     ghost view = { λ e. tree.stmt e.at (stmt_kind e.kind.value) };
 
     ghost size = { stmt_size };
 
     ghost use Rattle.std.proofs.Common.{arith};
-    ghost use Rattle.odc_program.specs.StmtFalls.{stmt_kind_falls};
+    ghost use Rattle.odc_program.specs.Views.StmtFalls.{stmt_kind_falls};
 
     ghost size_decreases = { λ e h. omega (arith, stmt_kind_falls e.kind.value) };
 }

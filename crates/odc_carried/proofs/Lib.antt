@@ -1,0 +1,15 @@
+pub mod Runs
+pub mod Sims
+pub mod Values
+pub mod Ties
+pub mod Writes
+pub mod Frame
+pub mod Quiet
+pub mod Evals
+pub mod Codes
+pub mod Tell
+pub mod Operators
+pub mod Loud
+pub mod Branches
+pub mod Arguments
+pub mod Exprs

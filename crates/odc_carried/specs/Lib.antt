@@ -1,0 +1,5 @@
+pub mod Carried
+pub mod Code
+pub mod Places
+pub mod Tied
+pub mod Kept

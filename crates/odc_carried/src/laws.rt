@@ -1,0 +1,13 @@
+//! Laws of the step to core code, as contracts of calls that do nothing.
+
+ghost use Rattle.odc_carried.specs.Kept.{QuietIntegers, QuietTruths};
+
+/// Where an integer expression holds no call and no check, the core expression gives its word.
+pub fn quiet_integers()
+    ensures { QuietIntegers }
+{}
+
+/// And so does the one of a condition, whose word is 0 or 1.
+pub fn quiet_truths()
+    ensures { QuietTruths }
+{}

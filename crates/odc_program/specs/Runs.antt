@@ -1,0 +1,3 @@
+-- Statements, procedures and whole programs.
+pub mod Statements
+pub mod Source

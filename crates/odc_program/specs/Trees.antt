@@ -1,0 +1,3 @@
+-- What a program is.
+pub mod Tree
+pub mod Program
