@@ -7,7 +7,6 @@ ghost use Rattle.odc_program.specs.Typing.Well.{well, has_runtime};
 ghost use Rattle.odc_program.specs.Typing.Frames.{framed};
 ghost use Rattle.odc_program.specs.Rows.Told.{told, asked, Prints, Leaves};
 ghost use Rattle.odc_program.specs.States.Bytes.{global, nil, to};
-ghost use Rattle.odc_program.specs.Laws.{StoppedStays, OnlyGrows};
 ghost use Rattle.odc_program.specs.Rows.Writing.{at, zero, show, set, num, context_index, Plain};
 ghost use Rattle.odc_program.specs.Trees.Tree as tree;
 ghost use Rattle.odc_program.specs.Rows.First as first;
@@ -57,16 +56,6 @@ pub fn defers_before_return()
 /// A nil union takes the default case, and an assertion on it stops.
 pub fn nil_union()
     ensures { Prints first.nil_union (codes "none\n") (checked check.Assertion (at 110)) 31 0 }
-{}
-
-/// A run that has stopped stays as it is at every greater bound.
-pub fn stopped_stays()
-    ensures { StoppedStays }
-{}
-
-/// A program only adds to the log and the cost, whatever state it begins in.
-pub fn only_grows()
-    ensures { OnlyGrows }
 {}
 
 /// A loop by place changes the elements.

@@ -10,3 +10,4 @@ pub mod Whole
 -- 2 its instances
 pub mod Grows
 pub mod Stays
+pub mod Strays

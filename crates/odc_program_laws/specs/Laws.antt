@@ -1,11 +1,13 @@
 -- What holds of all runs.
 use Rattle.std.specs.Prelude.{◌≡◌, ℕ, ◌≤◌, List, ◌++◌}
-use Rattle.odc_text.specs.Run.{End, going, Entry}
+use Rattle.odc_text.specs.declared.place.Place.{Place}
+use Rattle.odc_text.specs.Run.{End, going, strayed, Entry}
 use Rattle.odc_program.specs.States.Run.{Res, ok, stop}
 use Rattle.odc_program.specs.States.Bytes.{Pointer}
 use Rattle.odc_program.specs.Trees.Program.{Program}
 use Rattle.odc_program.specs.States.State.{State, Leave}
 use Rattle.odc_program.specs.Runs.Source.{source, main_run}
+use Rattle.odc_program_laws.specs.Nodes.{InProgram}
 
 -- it has exited, stopped at a check, or strayed
 abbrev pub HasStopped : End → Type 0
@@ -29,3 +31,7 @@ GrownTo u (stop w v) = Grown u v
 -- whatever state a program begins in, it only adds to the log and the cost
 abbrev pub OnlyGrows : Type 0
 OnlyGrows = (p : Program) (n : ℕ) (u : State) → GrownTo u (main_run p n u)
+
+-- a run that strays does so at the place of a node of the program
+abbrev pub StraysAtNodes : Type 0
+StraysAtNodes = (p : Program) (input : List ℕ) (n : ℕ) (at : Place) → (source p input n).end ≡ strayed at → InProgram at p
