@@ -438,9 +438,9 @@ pub fn no_stack()
     ensures { Leaves asking.no_stack (asked 1 (pos 2) (pos 0) (pos 0) nil (pos 0) ∷ []) (checked check.Stack (at 9)) 3 1 }
 {}
 
-/// Without a turn it doesn't stand in the log.
+/// Without a turn that is left it doesn't stand in the log.
 pub fn no_turn()
-    ensures { told asking.no_stack [] 0 ≡ record { end = going; log = []; taken = 0; cost = 2; turns = 0 } }
+    ensures { told asking.asks_for_ever [] 1 ≡ record { end = going; log = []; taken = 0; cost = 4; turns = 1 } }
 {}
 
 /// A marked call through a value stands in the log.

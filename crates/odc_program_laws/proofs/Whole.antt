@@ -48,7 +48,7 @@ module _ (In : Place → Type 0) (S : s.State → s.State → Type 0) (Stops : s
   ifs : {A : Type 0} (b : Bool) {m n m' n' : s.Do A} → Same m m' → Same n n' → Same (if b then m else n) (if b then m' else n')
   ifs b h k = a.ifs In S Stops r b h k
 
-  builtins_of : (y z : s.Calls) → a.SameCalls S Stops y z → (env : s.Env) (at : a.Within In) (ty : ℕ) (which : Builtin) (ts : List ℕ) (vs : List Value) → Same (e.builtin_of y env at.place ty which ts vs) (e.builtin_of z env at.place ty which ts vs)
+  pub builtins_of : (y z : s.Calls) → a.SameCalls S Stops y z → (env : s.Env) (at : a.Within In) (ty : ℕ) (which : Builtin) (ts : List ℕ) (vs : List Value) → Same (e.builtin_of y env at.place ty which ts vs) (e.builtin_of z env at.place ty which ts vs)
   builtins_of y z k env at ty bi.Print ts vs = bl.prints_all In S Stops r env at ts vs
   builtins_of y z k env at ty bi.Println ts vs = bl.prints_line In S Stops r env at ts vs
   builtins_of y z k env at ty bi.Read ts vs = bl.files_read In S Stops r env at ty vs
@@ -79,7 +79,7 @@ module _ (In : Place → Type 0) (S : s.State → s.State → Type 0) (Stops : s
   builtins_of y z k env at ty bi.Free ts vs = al.frees In S Stops r y z k env at ts vs
   builtins_of y z k env at ty bi.FreeAll ts vs = al.all_freed In S Stops r y z k env at vs
 
-  run_builtins : (y z : s.Calls) → a.SameCalls S Stops y z → (env : s.Env) (at : a.Within In) (ty : ℕ) (which : Builtin) (order ts : List ℕ) {m n : s.Do s.Base} {i j : s.Do (List Value)} → Same m n → Same i j →
+  pub run_builtins : (y z : s.Calls) → a.SameCalls S Stops y z → (env : s.Env) (at : a.Within In) (ty : ℕ) (which : Builtin) (order ts : List ℕ) {m n : s.Do s.Base} {i j : s.Do (List Value)} → Same m n → Same i j →
       Same (e.run_builtin y env at.place ty which order ts m i) (e.run_builtin z env at.place ty which order ts n j)
   run_builtins y z k env at ty bi.Len order ts h g = bl.lens In S Stops r env at ts h
   run_builtins y z k env at ty bi.Print order ts h g = thens g (λ vs. builtins_of y z k env at ty bi.Print ts (t.in_order [] order vs))
@@ -215,7 +215,7 @@ module _ (In : Place → Type 0) (S : s.State → s.State → Type 0) (Stops : s
         execs env t.finish ok = record { by = λ c. (b.lefts In S Stops r f.falls).by c }
         execs env (t.follow i ss) ok = record { by = λ c. (b.steps In S Stops r (x.later n y env i) (x.later m z env i) (later env i (λ x m. ok x (inl m))) (exec env i (λ x m. ok x (inl m))) (execs env ss (λ x m. ok x (inr m)))).by c }
 
-        exec : (env : s.Env) (i : t.Stmt) → All (λ x. d.InStmt x i) → b.SamePart In S Stops r (x.exec n y env i) (x.exec m z env i)
+        pub exec : (env : s.Env) (i : t.Stmt) → All (λ x. d.InStmt x i) → b.SamePart In S Stops r (x.exec n y env i) (x.exec m z env i)
         exec env (t.stmt at k) ok = record { by = λ c. a.ticks In S Stops r (form env (record { place = at; inside = ok at (inl refl) }) k (λ x m. ok x (inr m)) c) }
 
         form : (env : s.Env) (at : a.Within In) (k : t.Form) → All (λ x. d.InForm x k) → (c : s.Context) → Same (x.form_of n y env at.place k c) (x.form_of m z env at.place k c)

@@ -1,2 +1,3 @@
 pub mod Nodes
+pub mod Rewriting
 pub mod Laws
