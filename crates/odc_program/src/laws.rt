@@ -7,7 +7,6 @@ ghost use Rattle.odc_program.specs.Typing.Well.{well, has_runtime};
 ghost use Rattle.odc_program.specs.Typing.Frames.{framed};
 ghost use Rattle.odc_program.specs.Rows.Told.{told, asked, Prints, Leaves};
 ghost use Rattle.odc_program.specs.States.Bytes.{global, nil, to};
-ghost use Rattle.odc_program.specs.Laws.{StoppedStays, OnlyGrows};
 ghost use Rattle.odc_program.specs.Rows.Writing.{at, zero, show, set, num, context_index, Plain};
 ghost use Rattle.odc_program.specs.Trees.Tree as tree;
 ghost use Rattle.odc_program.specs.Rows.First as first;
@@ -57,16 +56,6 @@ pub fn defers_before_return()
 /// A nil union takes the default case, and an assertion on it stops.
 pub fn nil_union()
     ensures { Prints first.nil_union (codes "none\n") (checked check.Assertion (at 110)) 31 0 }
-{}
-
-/// A run that has stopped stays as it is at every greater bound.
-pub fn stopped_stays()
-    ensures { StoppedStays }
-{}
-
-/// A program only adds to the log and the cost, whatever state it begins in.
-pub fn only_grows()
-    ensures { OnlyGrows }
 {}
 
 /// A loop by place changes the elements.
@@ -449,9 +438,9 @@ pub fn no_stack()
     ensures { Leaves asking.no_stack (asked 1 (pos 2) (pos 0) (pos 0) nil (pos 0) ∷ []) (checked check.Stack (at 9)) 3 1 }
 {}
 
-/// Without a turn it doesn't stand in the log.
+/// Without a turn that is left it doesn't stand in the log.
 pub fn no_turn()
-    ensures { told asking.no_stack [] 0 ≡ record { end = going; log = []; taken = 0; cost = 2; turns = 0 } }
+    ensures { told asking.asks_for_ever [] 1 ≡ record { end = going; log = []; taken = 0; cost = 4; turns = 1 } }
 {}
 
 /// A marked call through a value stands in the log.

@@ -33,6 +33,11 @@ no_stack = with_all (buffer ∷ []) [] (Some 1) (main [] [] (do_ (calls Error b.
     large : Proc → Proc
     large p = record p { head = record p.head { frame = 134217728 } }
 
+-- an allocator is asked for ever: 1, and 3 up to the first call
+abbrev pub asks_for_ever : Program
+asks_for_ever = with_all (buffer ∷ []) [] (Some 1) (main [] []
+    (st (t.loop 1 t.no_stmt t.absent t.no_stmt (t.follow (do_ (calls Error b.FreeAll 20 [])) t.finish)) ∷ []) ∷ allocator_of 0 ∷ [])
+
 -- a call of an allocator through a value: 38 and 3, and 17
 abbrev pub marked : Program
 marked = with_all (buffer ∷ []) [] None (

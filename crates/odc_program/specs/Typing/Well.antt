@@ -482,6 +482,7 @@ local_types (l ∷ ls) = l.ty ∷ local_types ls
 
 abbrev pub helper_type : Env → List Head → ℕ → List ℕ → ℕ → Bool
 helper_type env hs h ts t = WellTypes.is_there (slice_get hs h) (λ q. WellTypes.same_list ts (local_types (take q.parameters q.locals)) && WellTypes.same_list (WellTypes.values_in env t) (local_types (take q.results (drop q.parameters q.locals))))
+
 abbrev mutual
   pub well_expr : Ways → Env → Expr → Bool
   well_expr w env (expr t at k) = nat_lt t (length env.tables.types) && (is_located env at k && well_kind w env t k)

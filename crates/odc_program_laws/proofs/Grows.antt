@@ -9,10 +9,14 @@ use Rattle.odc_program.specs.States.Memory.{Memory, load, store, fits, writable}
 use Rattle.odc_program.specs.Trees.Program as t
 use Rattle.odc_program.specs.States.State as p
 use Rattle.odc_program.specs.Runs.Source as s
-use Rattle.odc_program.specs.Laws.{Grown, GrownTo}
-use Rattle.odc_program.proofs.Alike as a
-use Rattle.odc_program.proofs.StatementsAlike as b
-use Rattle.odc_program.proofs.Whole as w
+use Rattle.odc_program_laws.specs.Laws.{Grown, GrownTo}
+use Rattle.odc_program_laws.proofs.Alike as a
+use Rattle.odc_program_laws.proofs.StatementsAlike as b
+use Rattle.odc_program_laws.proofs.Whole as w
+
+-- no place is asked for
+abbrev Anywhere : Place → Type 0
+Anywhere at = Unit {0}
 
 module _ (o : p.State) where
   abbrev S : p.State → p.State → Type 0
@@ -62,22 +66,22 @@ module _ (o : p.State) where
   backs_so u (a.halts_at p.back v) h = h.1
   backs_so u (a.halts_at (p.ends e) v) h = cc
 
-  pub growing : a.Alike S Stops
+  pub growing : a.Alike Anywhere S Stops
   growing = record {
     stays = λ x u y f h. stays_so x u y f h;
-    halts = λ x u v h. (refl, h);
+    halts = λ x u v i h. (refl, h);
     wakes = λ e u v h. cc;
     backs = λ u q h. backs_so u q h;
     spends = λ n. itself (p.spend n) (λ u h. record { more = h.more; log = h.log; cost = omega (arith, h.cost) });
     tells = λ es. itself (p.leave_behind es) (λ u h. record { more = h.more ++ es; log = ap (λ x. x ++ es) h.log ∙ append_assoc o.log h.more es; cost = h.cost });
-    loads = λ at b n k. itself (p.load_at at b n k) (λ u h. known_after at (load u.memory b n k) u h);
-    stores = λ at b n v. itself (p.store_at at b n v) (λ u h. kept_after at (store u.memory b n v) u h);
+    loads = λ at b n k. itself (p.load_at at.place b n k) (λ u h. known_after at.place (load u.memory b n k) u h);
+    stores = λ at b n v. itself (p.store_at at.place b n v) (λ u h. kept_after at.place (store u.memory b n v) u h);
     opens = λ b v. itself (p.open_at b v) (λ u h. record { more = h.more; log = h.log; cost = h.cost });
     closes = λ n. itself (p.close_all n) (λ u h. record { more = h.more; log = h.log; cost = h.cost });
     closes_from = λ n l. itself (p.close_behind n l) (λ u h. record { more = h.more; log = h.log; cost = h.cost });
-    inside = λ at b n. itself (p.in_block at b n) (λ u h. inside_after at b n (nat_le n (u.memory.long b)) u h);
-    lives = λ at b. itself (p.live_at at b) (λ u h. live_after at (u.memory.size b) u h);
-    rooms = λ at b n k. itself (p.room_at at b n k) (λ u h. room_after at (fits (writable b (u.memory.size b)) n k) u h);
+    inside = λ at b n. itself (p.in_block at.place b n) (λ u h. inside_after at.place b n (nat_le n (u.memory.long b)) u h);
+    lives = λ at b. itself (p.live_at at.place b) (λ u h. live_after at.place (u.memory.size b) u h);
+    rooms = λ at b n k. itself (p.room_at at.place b n k) (λ u h. room_after at.place (fits (writable b (u.memory.size b)) n k) u h);
     inputs = λ n. itself (p.take_input n) (λ u h. record { more = h.more; log = h.log; cost = h.cost });
     turns = itself p.take_turn (λ u h. turn_after u.left u h);
     serials = itself p.next_serial (λ u h. record { more = h.more; log = h.log; cost = h.cost });
@@ -92,4 +96,4 @@ same_fuel T zero = tt
 same_fuel T (suc n) = same_fuel T n
 
 pub only_grows : (z : t.Program) (n : ℕ) (o : p.State) → GrownTo o (s.main_run z n o)
-only_grows z n o = grown_after o _ ((w.runs (S o) (Stops o) (growing o) z n n (same_fuel (Stops o) n)).by o o (refl, record { more = []; log = sym (append-nil o.log); cost = omega arith }))
+only_grows z n o = grown_after o _ ((w.runs Anywhere (S o) (Stops o) (growing o) z (λ x m. tt) n n (same_fuel (Stops o) n)).by o o (refl, record { more = []; log = sym (append-nil o.log); cost = omega arith }))

@@ -7,6 +7,11 @@ pub mod BuiltinsAlike
 pub mod AllocatingAlike
 pub mod StatementsAlike
 pub mod Whole
+pub mod Rewritten
 -- 2 its instances
 pub mod Grows
 pub mod Stays
+pub mod Strays
+-- 3 rewriting
+pub mod Blind
+pub mod DeferredTwice

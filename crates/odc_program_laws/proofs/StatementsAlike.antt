@@ -11,10 +11,10 @@ use Rattle.odc_program.specs.States.Bytes.{Value, zeros, int_bytes}
 use Rattle.odc_program.specs.States.State as s
 use Rattle.odc_program.specs.Kinds.Places as p
 use Rattle.odc_program.specs.Runs.Statements as t
-use Rattle.odc_program.proofs.Alike as a
-use Rattle.odc_program.proofs.PlacesAlike as pl
-use Rattle.odc_program.proofs.OperatorsAlike as ol
-use Rattle.odc_program.proofs.CallsAlike as cl
+use Rattle.odc_program_laws.proofs.Alike as a
+use Rattle.odc_program_laws.proofs.PlacesAlike as pl
+use Rattle.odc_program_laws.proofs.OperatorsAlike as ol
+use Rattle.odc_program_laws.proofs.CallsAlike as cl
 
 abbrev pub Loose : (s.Leave → s.State → a.Tail → Type 0) → Type 0
 Loose Stops = (u : s.State) (q : a.Tail) → Stops (s.ends going) u q
@@ -26,27 +26,27 @@ Fuels Stops zero (suc m) = Loose Stops
 Fuels Stops (suc n) zero = ⊥
 Fuels Stops (suc n) (suc m) = Fuels Stops n m
 
-module _ (S : s.State → s.State → Type 0) (Stops : s.Leave → s.State → a.Tail → Type 0) (r : a.Alike S Stops) where
+module _ (In : Place → Type 0) (S : s.State → s.State → Type 0) (Stops : s.Leave → s.State → a.Tail → Type 0) (r : a.Alike In S Stops) where
   abbrev pub Same : {A : Type 0} → s.Do A → s.Do A → Type 0
   Same m n = a.Like S Stops m n
 
   thens : {A B : Type 0} {m n : s.Do A} {f g : A → s.Do B} → Same m n → ((x : A) → Same (f x) (g x)) → Same (m >>= f) (n >>= g)
-  thens h k = a.thens S Stops r h k
+  thens h k = a.thens In S Stops r h k
 
   pures : {A : Type 0} (x : A) → Same (pure x) (pure x)
-  pures x = a.pures S Stops r x
+  pures x = a.pures In S Stops r x
 
-  knowns : {A : Type 0} (at : Place) (o : Option A) → Same (s.known at o) (s.known at o)
-  knowns at o = a.knowns S Stops r at o
+  knowns : {A : Type 0} (at : a.Within In) (o : Option A) → Same (s.known at.place o) (s.known at.place o)
+  knowns at o = a.knowns In S Stops r at o
 
-  strays : {A : Type 0} (at : Place) → Same {A = A} (s.stray at) (s.stray at)
-  strays at = a.strays S Stops r at
+  strays : {A : Type 0} (at : a.Within In) → Same {A = A} (s.stray at.place) (s.stray at.place)
+  strays at = a.strays In S Stops r at
 
-  fails : {A : Type 0} (c : Check) (at : Place) → Same {A = A} (s.fail c at) (s.fail c at)
-  fails c at = a.fails S Stops r c at
+  fails : {A : Type 0} (c : Check) (at : a.Within In) → Same {A = A} (s.fail c at.place) (s.fail c at.place)
+  fails c at = a.fails In S Stops r c at
 
   ifs : {A : Type 0} (b : Bool) {m n m' n' : s.Do A} → Same m m' → Same n n' → Same (if b then m else n) (if b then m' else n')
-  ifs b h k = a.ifs S Stops r b h k
+  ifs b h k = a.ifs In S Stops r b h k
 
   pub record SamePart (m n : t.Part) : Type 0 where
     pub by : (c : s.Context) → Same (m c) (n c)
@@ -93,31 +93,31 @@ module _ (S : s.State → s.State → Type 0) (Stops : s.Leave → s.State → a
   steps None (Some n) x h k = elim x [ ]
   steps (Some m) None x h k = elim x [ ]
   steps None None not_late h k = record { by = λ c. thens ((caughts h).by c) (λ l. (after_fall k l.flow).by l.context) }
-  steps (Some m) (Some n) (are_late g) h k = record { by = λ c. a.ticks S Stops r ((finallies k g).by c) }
+  steps (Some m) (Some n) (are_late g) h k = record { by = λ c. a.ticks In S Stops r ((finallies k g).by c) }
 
   -- ---- the kinds
   begin_eaches : (env : s.Env) (xs : List (Option ℕ)) (vs : List Value) → Same (t.begin_each env xs vs) (t.begin_each env xs vs)
   begin_eaches env [] vs = pures {A = Unit {0}} tt
-  begin_eaches env (Some x ∷ xs) (v ∷ vs) = thens (a.local_begins S Stops r env x v) (λ _. begin_eaches env xs vs)
+  begin_eaches env (Some x ∷ xs) (v ∷ vs) = thens (a.local_begins In S Stops r env x v) (λ _. begin_eaches env xs vs)
   begin_eaches env (None ∷ xs) (v ∷ vs) = thens (pures {A = Unit {0}} tt) (λ _. begin_eaches env xs vs)
-  begin_eaches env (Some x ∷ xs) [] = thens (a.local_begins S Stops r env x (zeros (s.size_of env (s.local_of env x).ty))) (λ _. begin_eaches env xs [])
+  begin_eaches env (Some x ∷ xs) [] = thens (a.local_begins In S Stops r env x (zeros (s.size_of env (s.local_of env x).ty))) (λ _. begin_eaches env xs [])
   begin_eaches env (None ∷ xs) [] = begin_eaches env xs []
 
   pub declares : (env : s.Env) (xs : List (Option ℕ)) {m n : s.Do (List Value)} → Same m n → (c : s.Context) → Same (t.run_declare env xs m c) (t.run_declare env xs n c)
   declares env xs h c = thens h (λ vs. thens (begin_eaches env xs vs) (λ _. (lefts t.falls).by c))
 
-  each_stores : (at : Place) (env : s.Env) (qs : List (Option s.Spot)) (vs : List Value) (c : s.Context) → Same (t.store_each at env qs vs c) (t.store_each at env qs vs c)
-  each_stores at env (Some q ∷ qs) (v ∷ vs) c = thens (pl.spot_stores S Stops r at env q v c) (λ d. each_stores at env qs vs d)
+  each_stores : (at : a.Within In) (env : s.Env) (qs : List (Option s.Spot)) (vs : List Value) (c : s.Context) → Same (t.store_each at.place env qs vs c) (t.store_each at.place env qs vs c)
+  each_stores at env (Some q ∷ qs) (v ∷ vs) c = thens (pl.spot_stores In S Stops r at env q v c) (λ d. each_stores at env qs vs d)
   each_stores at env (None ∷ qs) (v ∷ vs) c = each_stores at env qs vs c
   each_stores at env [] vs c = pures c
   each_stores at env (Some q ∷ qs) [] c = pures c
   each_stores at env (None ∷ qs) [] c = pures c
 
-  pub assigns : (at : Place) (env : s.Env) {m n : s.Do (List Value)} {k l : s.Do (List (Option s.Spot))} → Same m n → Same k l → (c : s.Context) → Same (t.run_assign at env m k c) (t.run_assign at env n l c)
+  pub assigns : (at : a.Within In) (env : s.Env) {m n : s.Do (List Value)} {k l : s.Do (List (Option s.Spot))} → Same m n → Same k l → (c : s.Context) → Same (t.run_assign at.place env m k c) (t.run_assign at.place env n l c)
   assigns at env h k c = thens h (λ vs. thens k (λ qs. thens (each_stores at env qs vs c) (λ d. (lefts t.falls).by d)))
 
-  pub changes : (at from : Place) (env : s.Env) (x : BinaryOp) (ty u : ℕ) {m n : s.Do s.Spot} {k l : s.Do Value} → Same m n → Same k l → (c : s.Context) → Same (t.run_change at from env x ty u m k c) (t.run_change at from env x ty u n l c)
-  changes at from env x ty u h k c = thens h (λ q. thens (pl.read_spots S Stops r env from q (s.size_of env ty)) (λ v. thens k (λ w. thens (ol.operates S Stops r env at x ty u v w) (λ z. thens (pl.spot_stores S Stops r at env q z c) (λ d. (lefts t.falls).by d)))))
+  pub changes : (at from : a.Within In) (env : s.Env) (x : BinaryOp) (ty u : ℕ) {m n : s.Do s.Spot} {k l : s.Do Value} → Same m n → Same k l → (c : s.Context) → Same (t.run_change at.place from.place env x ty u m k c) (t.run_change at.place from.place env x ty u n l c)
+  changes at from env x ty u h k c = thens h (λ q. thens (pl.read_spots In S Stops r env from q (s.size_of env ty)) (λ v. thens k (λ w. thens (ol.operates In S Stops r env at x ty u v w) (λ z. thens (pl.spot_stores In S Stops r at env q z c) (λ d. (lefts t.falls).by d)))))
 
   pub evals : {m n : s.Do Value} → Same m n → (c : s.Context) → Same (t.run_eval m c) (t.run_eval n c)
   evals h c = thens h (λ v. (lefts t.falls).by c)
@@ -146,7 +146,7 @@ module _ (S : s.State → s.State → Type 0) (Stops : s.Leave → s.State → a
   looses h n = record { by = λ u v q. h u (a.tail (n v)) }
 
   pub loops_turn : (n m l : ℕ) → Fuels Stops n m → {f g : s.Context → s.Do Bool} {b b' q q' : t.Part} → ((c : s.Context) → Same (f c) (g c)) → SamePart b b' → SamePart q q' → SamePart (t.turns n l f b q) (t.turns m l g b' q')
-  loops_turn zero zero l e hf hb hq = record { by = λ c. thens (hf c) (λ x. ifs x (a.halted S Stops r (s.ends going)) ((lefts t.falls).by c)) }
+  loops_turn zero zero l e hf hb hq = record { by = λ c. thens (hf c) (λ x. ifs x (a.halted In S Stops r (s.ends going) tt) ((lefts t.falls).by c)) }
   loops_turn zero (suc m) l e hf hb hq = record { by = λ c. thens (hf c) (λ x. ifs x (looses e _) ((lefts t.falls).by c)) }
   loops_turn (suc n) zero l e hf hb hq = absurd e
   loops_turn (suc n) (suc m) l e hf hb hq = record { by = λ c. thens (hf c) (λ x. ifs x ((loop_turns l hb hq (loops_turn n m l e hf hb hq)).by c) ((lefts t.falls).by c)) }
@@ -163,7 +163,7 @@ module _ (S : s.State → s.State → Type 0) (Stops : s.Leave → s.State → a
   each_turns l (suc n) k give h g = record { by = λ c. thens (h k) (λ b. thens r.turns (λ _. thens ((g k b).by c) (λ z. (next_turns (each_turns l n (k + 1) give h g) (t.goes_on l z.flow)).by c))) }
 
   begins : (env : s.Env) (x : Option ℕ) (v : Value) → Same (s.begin_maybe env x v) (s.begin_maybe env x v)
-  begins env x v = a.maybe_begins S Stops r env x v
+  begins env x v = a.maybe_begins In S Stops r env x v
 
   pub beguns : (env : s.Env) (x y : Option ℕ) {f g : s.Env → t.Part} → ((e : s.Env) → SamePart (f e) (g e)) → (by_place : Bool) (k : ℕ) (b : s.Base) → SamePart (t.begun env x y f by_place k b) (t.begun env x y g by_place k b)
   beguns env x y h true k (s.lies q) = record { by = λ c. thens (begins env y (int_bytes 8 (pos k))) (λ _. (scopes (h (s.alias env x q))).by c) }
@@ -173,19 +173,19 @@ module _ (S : s.State → s.State → Type 0) (Stops : s.Leave → s.State → a
   beguns env x y h true k (s.views b u j) = lefts t.falls
   beguns env x y h false k (s.views b u j) = lefts t.falls
 
-  pub spans : (env : s.Env) (at : Place) (ty l : ℕ) (x y : Option ℕ) (closed : Bool) {m n k j : s.Do Value} {f g : s.Env → t.Part} → Same m n → Same k j → ((e : s.Env) → SamePart (f e) (g e)) → (c : s.Context) →
-      Same (t.run_span env at ty l x y closed m k f c) (t.run_span env at ty l x y closed n j g c)
-  spans env at ty l x y closed h k g c = thens h (λ v. thens k (λ w. thens (pl.wholes S Stops r env at ty v) (λ i. thens (pl.wholes S Stops r env at ty w) (λ j.
+  pub spans : (env : s.Env) (at : a.Within In) (ty l : ℕ) (x y : Option ℕ) (closed : Bool) {m n k j : s.Do Value} {f g : s.Env → t.Part} → Same m n → Same k j → ((e : s.Env) → SamePart (f e) (g e)) → (c : s.Context) →
+      Same (t.run_span env at.place ty l x y closed m k f c) (t.run_span env at.place ty l x y closed n j g c)
+  spans env at ty l x y closed h k g c = thens h (λ v. thens k (λ w. thens (pl.wholes In S Stops r env at ty v) (λ i. thens (pl.wholes In S Stops r env at ty w) (λ j.
       (each_turns l (t.range_count i j closed) 0 _ (λ q. pures _) (beguns env x y g false)).by c))))
 
-  element_reads : (env : s.Env) (at : Place) (by_place : Bool) (e : ℕ) (b : s.Base) → Same (t.element_read env at by_place e b) (t.element_read env at by_place e b)
+  element_reads : (env : s.Env) (at : a.Within In) (by_place : Bool) (e : ℕ) (b : s.Base) → Same (t.element_read env at.place by_place e b) (t.element_read env at.place by_place e b)
   element_reads env at true e b = pures b
-  element_reads env at false e b = a.givens S Stops r (pl.value_ins S Stops r env at e b)
+  element_reads env at false e b = a.givens In S Stops r (pl.value_ins In S Stops r env at e b)
 
-  pub throughs : (env : s.Env) (at from : Place) (ty i l : ℕ) (x y : Option ℕ) (by_place : Bool) {m n : s.Do s.Base} {f g : s.Env → t.Part} → Same m n → ((e : s.Env) → SamePart (f e) (g e)) → (c : s.Context) →
-      Same (t.run_through env at from ty i l x y by_place m f c) (t.run_through env at from ty i l x y by_place n g c)
-  throughs env at from ty i l x y by_place h g c = thens h (λ b. thens (pl.elements S Stops r env from ty b) (λ es.
-      (each_turns l (p.natural es.count) 0 _ (λ k. thens (pl.element_found S Stops r at (pos k) es) (λ e. element_reads env at by_place i e)) (beguns env x y g by_place)).by c))
+  pub throughs : (env : s.Env) (at from : a.Within In) (ty i l : ℕ) (x y : Option ℕ) (by_place : Bool) {m n : s.Do s.Base} {f g : s.Env → t.Part} → Same m n → ((e : s.Env) → SamePart (f e) (g e)) → (c : s.Context) →
+      Same (t.run_through env at.place from.place ty i l x y by_place m f c) (t.run_through env at.place from.place ty i l x y by_place n g c)
+  throughs env at from ty i l x y by_place h g c = thens h (λ b. thens (pl.elements In S Stops r env from ty b) (λ es.
+      (each_turns l (p.natural es.count) 0 _ (λ k. thens (pl.element_found In S Stops r at (pos k) es) (λ e. element_reads env at by_place i e)) (beguns env x y g by_place)).by c))
 
   -- ---- switches
   pub data SameTests : List (Option t.Test) → List (Option t.Test) → Type 0 where
@@ -224,15 +224,15 @@ module _ (S : s.State → s.State → Type 0) (Stops : s.Leave → s.State → a
   pub tried : {m n k l : s.Do Bool} → Same m n → Same k l → Same (t.tried m k) (t.tried n l)
   tried h k = thens (thens (r.spends 1) (λ _. h)) (λ x. ifs x (pures true) k)
 
-  pub item_tests : (env : s.Env) (at : Place) (ty : ℕ) {m n : s.Do Value} → Same m n → (v : Option Value) → Same (t.item_holds env at ty m (p.read_truth at) v) (t.item_holds env at ty n (p.read_truth at) v)
-  item_tests env at ty h None = thens h (λ v. pl.truths S Stops r at v)
-  item_tests env at ty h (Some v) = thens h (λ w. thens (ol.operates S Stops r env at op.Equal ty ty v w) (λ x. pl.truths S Stops r at x))
+  pub item_tests : (env : s.Env) (at : a.Within In) (ty : ℕ) {m n : s.Do Value} → Same m n → (v : Option Value) → Same (t.item_holds env at.place ty m (p.read_truth at.place) v) (t.item_holds env at.place ty n (p.read_truth at.place) v)
+  item_tests env at ty h None = thens h (λ v. pl.truths In S Stops r at v)
+  item_tests env at ty h (Some v) = thens h (λ w. thens (ol.operates In S Stops r env at op.Equal ty ty v w) (λ x. pl.truths In S Stops r at x))
 
-  in_spans : (env : s.Env) (at : Place) (ty : ℕ) (closed : Bool) (v w x : Value) → Same (t.in_span env at ty closed v w x) (t.in_span env at ty closed v w x)
-  in_spans env at ty closed v w x = thens (pl.wholes S Stops r env at ty v) (λ i. thens (pl.wholes S Stops r env at ty w) (λ j. thens (pl.wholes S Stops r env at ty x) (λ k.
+  in_spans : (env : s.Env) (at : a.Within In) (ty : ℕ) (closed : Bool) (v w x : Value) → Same (t.in_span env at.place ty closed v w x) (t.in_span env at.place ty closed v w x)
+  in_spans env at ty closed v w x = thens (pl.wholes In S Stops r env at ty v) (λ i. thens (pl.wholes In S Stops r env at ty w) (λ j. thens (pl.wholes In S Stops r env at ty x) (λ k.
       thens (r.spends 2) (λ _. pures (int_le i k && (if closed then int_le k j else int_lt k j))))))
 
-  pub span_tests : (env : s.Env) (at : Place) (ty : ℕ) (closed : Bool) {m n k j : s.Do Value} → Same m n → Same k j → (v : Option Value) → Same (t.span_holds env at ty closed m k v) (t.span_holds env at ty closed n j v)
+  pub span_tests : (env : s.Env) (at : a.Within In) (ty : ℕ) (closed : Bool) {m n k j : s.Do Value} → Same m n → Same k j → (v : Option Value) → Same (t.span_holds env at.place ty closed m k v) (t.span_holds env at.place ty closed n j v)
   span_tests env at ty closed h g None = pures false
   span_tests env at ty closed h g (Some v) = thens h (λ x. thens g (λ y. in_spans env at ty closed x y v))
 
@@ -240,9 +240,9 @@ module _ (S : s.State → s.State → Type 0) (Stops : s.Leave → s.State → a
   ones k [] = pures false
   ones k (x ∷ ts) = tried (thens (r.spends 1) (λ _. pures (k == x))) (ones k ts)
 
-  pub variant_tests : (env : s.Env) (at : Place) (ty : ℕ) (ts : List ℕ) (v : Option Value) → Same (t.tag_test env at ty ts v) (t.tag_test env at ty ts v)
+  pub variant_tests : (env : s.Env) (at : a.Within In) (ty : ℕ) (ts : List ℕ) (v : Option Value) → Same (t.tag_test env at.place ty ts v) (t.tag_test env at.place ty ts v)
   variant_tests env at ty ts None = pures false
-  variant_tests env at ty ts (Some v) = thens (ol.tags S Stops r env at ty v) (λ k. ones k ts)
+  variant_tests env at ty ts (Some v) = thens (ol.tags In S Stops r env at ty v) (λ k. ones k ts)
 
   pub data SameBodies : List (Value → t.Part) → List (Value → t.Part) → Type 0 where
     no_bodies : SameBodies [] []
@@ -252,17 +252,17 @@ module _ (S : s.State → s.State → Type 0) (Stops : s.Leave → s.State → a
   eaches no_bodies v = no_parts
   eaches (and_body h k) v = and_part (h v) (eaches k v)
 
-  pub named_bodies : (env : s.Env) (at : Place) (x : Option ℕ) {y z : t.Part} → SamePart y z → (v : Value) → SamePart (t.named_body env at x y v) (t.named_body env at x z v)
+  pub named_bodies : (env : s.Env) (at : a.Within In) (x : Option ℕ) {y z : t.Part} → SamePart y z → (v : Value) → SamePart (t.named_body env at.place x y v) (t.named_body env at.place x z v)
   named_bodies env at None h v = scopes h
-  named_bodies env at (Some x) h v = record { by = λ c. thens (ol.helds S Stops r env at (s.local_of env x).ty v) (λ w. thens (a.local_begins S Stops r env x w) (λ _. (scopes h).by c)) }
+  named_bodies env at (Some x) h v = record { by = λ c. thens (ol.helds In S Stops r env at (s.local_of env x).ty v) (λ w. thens (a.local_begins In S Stops r env x w) (λ _. (scopes h).by c)) }
 
   pub type_cases : (l : ℕ) {f g : s.Context → s.Do Value} {x y : List (Option t.Test)} {ms ns : List (Value → t.Part)} → ((c : s.Context) → Same (f c) (g c)) → SameTests x y → SameBodies ms ns → SamePart (t.run_type_switch l f x ms) (t.run_type_switch l g y ns)
   type_cases l h k q = labels l (record { by = λ c. thens (h c) (λ v. thens (picks 0 None (Some v) k) (λ i. (takens (eaches q v) i).by c)) })
 
   -- ---- leaving
-  results : (at : Place) (env : s.Env) (x : ℕ) (vs : List Value) → Same (t.results_from at env x vs) (t.results_from at env x vs)
+  results : (at : a.Within In) (env : s.Env) (x : ℕ) (vs : List Value) → Same (t.results_from at.place env x vs) (t.results_from at.place env x vs)
   results at env x [] = pures {A = Unit {0}} tt
-  results at env x (v ∷ vs) = thens (cl.results_stored S Stops r at env x v) (λ _. results at env (x + 1) vs)
+  results at env x (v ∷ vs) = thens (cl.results_stored In S Stops r at env x v) (λ _. results at env (x + 1) vs)
 
-  pub returns : (at : Place) (env : s.Env) {m n : s.Do (List Value)} → Same m n → (c : s.Context) → Same (t.run_return at env m c) (t.run_return at env n c)
+  pub returns : (at : a.Within In) (env : s.Env) {m n : s.Do (List Value)} → Same m n → (c : s.Context) → Same (t.run_return at.place env m c) (t.run_return at.place env n c)
   returns at env h c = thens h (λ vs. thens (results at env env.proc.parameters vs) (λ _. (lefts t.returns).by c))

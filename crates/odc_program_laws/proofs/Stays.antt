@@ -9,10 +9,14 @@ use Rattle.odc_program.specs.States.Memory.{Memory, load, store, fits, writable,
 use Rattle.odc_program.specs.Trees.Program as t
 use Rattle.odc_program.specs.States.State as p
 use Rattle.odc_program.specs.Runs.Source as s
-use Rattle.odc_program.proofs.Alike as a
-use Rattle.odc_program.proofs.StatementsAlike as b
-use Rattle.odc_program.proofs.Whole as w
-use Rattle.odc_program.specs.Laws.{HasStopped}
+use Rattle.odc_program_laws.proofs.Alike as a
+use Rattle.odc_program_laws.proofs.StatementsAlike as b
+use Rattle.odc_program_laws.proofs.Whole as w
+use Rattle.odc_program_laws.specs.Laws.{HasStopped}
+
+-- no place is asked for
+abbrev Anywhere : Place → Type 0
+Anywhere at = Unit {0}
 
 -- the same but for the turns that are left, of which the second has no fewer
 pub record Less (u v : p.State) : Type 0 where
@@ -105,22 +109,22 @@ turn_so zero k u v h e = tt
 turn_so (suc l) zero u v h e = absurd (omega (arith, e))
 turn_so (suc l) (suc k) u v h e = (refl, record { memory = h.memory; log = h.log; input = h.input; taken = h.taken; cost = ap (λ x. x + 1) h.cost; serial = h.serial; left = omega (arith, e) })
 
-pub staying : a.Alike Less Stops
+pub staying : a.Alike Anywhere Less Stops
 staying = record {
   stays = λ x u y f h. stays_so x u y f h;
-  halts = λ x u v h. halts_so x u v h;
+  halts = λ x u v i h. halts_so x u v h;
   wakes = λ e u v h. wakes_so e u v h;
   backs = λ u q h. backs_so u q h;
   spends = λ n. record { by = λ u v h. (refl, record { memory = h.memory; log = h.log; input = h.input; taken = h.taken; cost = ap (λ x. x + n) h.cost; serial = h.serial; left = h.left }) };
   tells = λ es. record { by = λ u v h. (refl, record { memory = h.memory; log = ap (λ x. x ++ es) h.log; input = h.input; taken = h.taken; cost = h.cost; serial = h.serial; left = h.left }) };
-  loads = λ at b n k. record { by = λ u v h. load_so at b n k u v h };
-  stores = λ at b n x. record { by = λ u v h. subst (λ (m : Memory). a.Ends Less Stops (p.store_at at b n x u) (p.keep at (store m b n x) v)) h.memory (keep_so at (store u.memory b n x) u v h) };
+  loads = λ at b n k. record { by = λ u v h. load_so at.place b n k u v h };
+  stores = λ at b n x. record { by = λ u v h. subst (λ (m : Memory). a.Ends Less Stops (p.store_at at.place b n x u) (p.keep at.place (store m b n x) v)) h.memory (keep_so at.place (store u.memory b n x) u v h) };
   opens = λ b x. record { by = λ u v h. (refl, record { memory = ap (λ m. open_block m b x) h.memory; log = h.log; input = h.input; taken = h.taken; cost = h.cost; serial = h.serial; left = h.left }) };
   closes = λ n. record { by = λ u v h. (refl, record { memory = ap (λ m. close m n) h.memory; log = h.log; input = h.input; taken = h.taken; cost = h.cost; serial = h.serial; left = h.left }) };
   closes_from = λ n l. record { by = λ u v h. (refl, record { memory = ap (λ m. close_from m n l) h.memory; log = h.log; input = h.input; taken = h.taken; cost = h.cost; serial = h.serial; left = h.left }) };
-  inside = λ at b n. record { by = λ u v h. subst (λ (m : Memory). a.Ends Less Stops (p.in_block at b n u) ((if nat_le n (m.long b) then pure (to b n) else p.stray at) v)) h.memory (inside_so at b n (nat_le n (u.memory.long b)) u v h) };
-  lives = λ at b. record { by = λ u v h. subst (λ (m : Memory). a.Ends Less Stops (p.live_at at b u) (p.live_by at (m.size b) v)) h.memory (live_so at (u.memory.size b) u v h) };
-  rooms = λ at b n k. record { by = λ u v h. subst (λ (m : Memory). a.Ends Less Stops (p.room_at at b n k u) (p.fitting at (fits (writable b (m.size b)) n k) v)) h.memory (room_so at (fits (writable b (u.memory.size b)) n k) u v h) };
+  inside = λ at b n. record { by = λ u v h. subst (λ (m : Memory). a.Ends Less Stops (p.in_block at.place b n u) ((if nat_le n (m.long b) then pure (to b n) else p.stray at.place) v)) h.memory (inside_so at.place b n (nat_le n (u.memory.long b)) u v h) };
+  lives = λ at b. record { by = λ u v h. subst (λ (m : Memory). a.Ends Less Stops (p.live_at at.place b u) (p.live_by at.place (m.size b) v)) h.memory (live_so at.place (u.memory.size b) u v h) };
+  rooms = λ at b n k. record { by = λ u v h. subst (λ (m : Memory). a.Ends Less Stops (p.room_at at.place b n k u) (p.fitting at.place (fits (writable b (m.size b)) n k) v)) h.memory (room_so at.place (fits (writable b (u.memory.size b)) n k) u v h) };
   inputs = λ n. record { by = λ u v h. input_so n u v h };
   turns = record { by = λ u v h. turn_so u.left v.left u v h h.left };
   serials = record { by = λ u v h. (h.serial, record { memory = h.memory; log = h.log; input = h.input; taken = h.taken; cost = h.cost; serial = ap (λ x. x + 1) h.serial; left = h.left }) };
@@ -150,5 +154,5 @@ same_ending (stop (p.ends (strayed at)) u) (stop y v) h e = subst (λ z. s.endin
 same_ending (stop (p.ends (trapped pc)) u) (stop y v) h e = subst (λ z. s.ending (stop z v) ≡ s.ending_at (trapped pc) u) h.0 (same_at (trapped pc) u v h.1)
 
 pub stopped_stays : (z : t.Program) (input : List ℕ) (n m : ℕ) → n ≤ m → HasStopped (s.source z input n).end → s.source z input m ≡ s.source z input n
-stopped_stays z input n m e h = same_ending _ _ ((w.runs Less Stops staying z n m (fuels n m e)).by (s.first_state z input n) (s.first_state z input m)
+stopped_stays z input n m e h = same_ending _ _ ((w.runs Anywhere Less Stops staying z (λ x m. tt) n m (fuels n m e)).by (s.first_state z input n) (s.first_state z input m)
     (record { memory = refl; log = refl; input = refl; taken = refl; cost = refl; serial = refl; left = e })) h

@@ -1,0 +1,3 @@
+pub mod Nodes
+pub mod Rewriting
+pub mod Laws
