@@ -1,10 +1,10 @@
 //! The program headers: the ranges of memory.
 
-ghost use Rattle.std.specs.Prelude.{◌≡◌, ◌+◌, ◌*◌, ◌≤◌, ◌<◌, ◌^◌, ◌&&◌, nat_le, true, false, not, length, map, MatchResult, None, Some};
+ghost use Rattle.std.specs.Prelude.{◌≡◌, ◌+◌, ◌*◌, ◌≤◌, ◌<◌, ◌^◌, ◌&&◌, nat_le, true, false, not, length, map, MatchResult, IfOk, All, None, Some};
 ghost use Rattle.std.specs.List.{list_all, list_any};
 ghost use Rattle.elf_file.specs.Fields as field;
 ghost use Rattle.elf_file.specs.Rules.{is_load, has_flag as flag_is_set, range_at, is_apart as apart, fits as header_fits, is_executed as executed, ranges, ranges_below, rule_7};
-ghost use Rattle.elf_file.specs.Seen.{range_seen};
+ghost use Rattle.rv_sites.specs.Seen.{range_seen, BytesFit};
 ghost use Rattle.elf_file.specs.Stands.{HasProgramHeader, HaveProgramHeaders};
 
 use crate::field::{half, long, stands, word};
@@ -92,7 +92,9 @@ fn fits(bytes: &[u8], k: u16, earlier: &[Range]) -> bool
 fn range_of(bytes: &[u8], k: u16) -> Range<'_>
     requires header { HasProgramHeader bytes.now k }
     requires inside { field.program_offset bytes.now k + field.file_size bytes.now k ≤ length bytes.now }
-    ensures { range_seen result ≡ range_at bytes.now k }
+    requires given { field.file_size bytes.now k ≤ field.memory_size bytes.now k }
+    ensures is { range_seen result ≡ range_at bytes.now k }
+    ensures fit { BytesFit result }
 {
     let at = program_header(bytes, k);
     let flags = word(bytes, at + 4);
@@ -111,7 +113,8 @@ fn range_of(bytes: &[u8], k: u16) -> Range<'_>
 /// The ranges of the program headers.
 pub fn read_ranges(bytes: &[u8]) -> Result<ArrayVec<Range<'_>, RANGES>, BadImage>
     requires { HaveProgramHeaders bytes.now }
-    ensures { MatchResult result (λ v. (rule_7 bytes.now ≡ None) × (map range_seen v.items ≡ ranges bytes.now)) (λ e. rule_7 bytes.now ≡ Some e) }
+    ensures exact { MatchResult result (λ v. (rule_7 bytes.now ≡ None) × (map range_seen v.items ≡ ranges bytes.now)) (λ e. rule_7 bytes.now ≡ Some e) }
+    ensures fit { IfOk result (λ v. All BytesFit v.items) }
 {
     let mut list = ArrayVec::new();
     for k in 0..half(bytes, 56) {

@@ -1,8 +1,9 @@
 //! The image in the bytes of a file.
 
-ghost use Rattle.std.specs.Prelude.{◌≡◌, ◌+◌, ◌*◌, ◌≤◌, length, map, true, false, MatchResult, None, Some};
+ghost use Rattle.std.specs.Prelude.{◌≡◌, ◌+◌, ◌*◌, ◌≤◌, length, map, true, false, MatchResult, IfOk, All, None, Some};
 ghost use Rattle.elf_file.specs.Fields as field;
-ghost use Rattle.elf_file.specs.Seen.{image_seen, range_seen};
+ghost use Rattle.rv_sites.specs.Seen.{range_seen, BytesFit};
+ghost use Rattle.elf_file.specs.Seen.{image_seen};
 ghost use Rattle.elf_file.specs.Stands.{HaveProgramHeaders};
 ghost use Rattle.elf_file.specs.Rules.{Denotes, or_else, ranges as ranges_of, refused, rule_7, rule_8 as eighth_rule, rule_9, unless, rule_1 as first_rule, rule_2 as second_rule, rule_3 as third_rule, rule_4 as fourth_rule, rule_5 as fifth_rule, rule_6 as sixth_rule};
 
@@ -115,9 +116,10 @@ fn read_header(bytes: &[u8]) -> Result<(), BadImage>
 }
 
 /// The image in the bytes of a file: the one that they denote where all nine rules are met, and else the
-/// first rule that isn't. Takes no memory, and copies nothing.
+/// first rule that isn't. No range has more bytes in the file than in memory. Takes no memory, and copies nothing.
 pub fn read_elf(bytes: &[u8]) -> Result<ImageView<'_>, BadImage>
-    ensures { MatchResult result (λ v. (refused bytes.now ≡ None) × Denotes bytes.now (image_seen v)) (λ e. refused bytes.now ≡ Some e) }
+    ensures exact { MatchResult result (λ v. (refused bytes.now ≡ None) × Denotes bytes.now (image_seen v)) (λ e. refused bytes.now ≡ Some e) }
+    ensures fit { IfOk result (λ v. All BytesFit v.ranges.items) }
 {
     read_header(bytes)?;
     let ranges = read_ranges(bytes)?;

@@ -8,3 +8,5 @@ pub mod Listed
 pub mod Trace
 -- 5 the memory map of an executable
 pub mod Layout
+-- 6 ranges of memory
+pub mod Seen

@@ -1,7 +1,7 @@
 use Rattle.std.proofs.Common.{◌≡◌, map, drop}
 use Rattle.std.specs.List.{list_all}
 use Rattle.elf_file.specs.Rules.{is_apart}
-use Rattle.elf_file.specs.Seen.{range_seen}
+use Rattle.rv_sites.specs.Seen.{range_seen}
 use Rattle.elf_file.proofs.program.is_apart_from.Given as goal
 
 -- none of the ranges so far shares a byte

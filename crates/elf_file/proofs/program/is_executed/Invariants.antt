@@ -1,7 +1,7 @@
 use Rattle.std.proofs.Common.{◌≡◌, map, drop}
 use Rattle.std.specs.List.{list_any}
 use Rattle.elf_file.specs.Rules.{is_executed}
-use Rattle.elf_file.specs.Seen.{range_seen}
+use Rattle.rv_sites.specs.Seen.{range_seen}
 use Rattle.elf_file.proofs.program.is_executed.Given as goal
 
 -- the address is in none of the ranges so far

@@ -5,8 +5,8 @@ use Rattle.elf_file.specs.Rules.{unless, is_load, fits, broken_range}
 use Rattle.elf_file.proofs.First.{first_is}
 use Rattle.elf_file.proofs.program.read_ranges.Goals as goal
 
-pub returns-then-not-fits : goal.returns-then-not-fits
-returns-then-not-fits c =
+pub returns-then-not-fits-clause-exact : goal.returns-then-not-fits-clause-exact
+returns-then-not-fits-clause-exact c =
     let bytes = c.args.bytes.now in
     let k = c.loop-k.k in
     let header : ℕ = field.program_header bytes k in

@@ -1,0 +1,2 @@
+-- 1 the lists of linked blocks
+pub mod Linked
