@@ -9,7 +9,7 @@ while [ "$(stat -c %s "$work/text" 2>/dev/null || echo 0)" -lt $((8 << 20)) ]; d
     cat "${texts[@]}" >>"$work/text"
     echo >>"$work/text"
 done
-time_five lex_bench
+time_five lex
 grep -q '^[0-9]* tokens$' "$work/said" || { echo "the text has no tokens" >&2; exit 1; }
 size=$(stat -c %s "$work/text")
 echo "$size bytes in $((best / 1000)) microseconds: $((size * 1000 / best)) MB/s"

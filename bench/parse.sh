@@ -9,7 +9,7 @@ echo 'package texts' >"$work/text"
 while [ "$(stat -c %s "$work/text")" -lt $((1 << 20)) ]; do
     for text in "${texts[@]}"; do sed '/^package /d' "$text" >>"$work/text"; done
 done
-time_five parse_bench
+time_five
 grep -q '^[0-9]* tokens, [0-9]* declarations$' "$work/said" || { echo "the text is no file" >&2; exit 1; }
 size=$(stat -c %s "$work/text")
 echo "$size bytes in $((best / 1000)) microseconds"

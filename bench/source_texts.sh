@@ -6,16 +6,16 @@ for text in "$@"; do texts+=("$(realpath "$text")"); done
 work=$(mktemp -d)
 trap 'rm -rf "$work"' EXIT
 
-# Builds this program, runs it five times on $work/text, and prints what it said, which $work/said keeps.
-# It sets `best` to the least time, in nanoseconds.
+# Builds front_bench, runs it five times on $work/text with these words, and prints what it said, which
+# $work/said keeps. It sets `best` to the least time, in nanoseconds.
 time_five() {
-    cd "crates/$1"
-    rt run "$1" <"$work/text" >"$work/first"
+    cd crates/front_bench
+    rt run front_bench -- "$@" <"$work/text" >"$work/first"
     best=
     local begun took
     for _ in 1 2 3 4 5; do
         begun=$(date +%s%N)
-        "out/$1" <"$work/text" >"$work/said"
+        out/front_bench "$@" <"$work/text" >"$work/said"
         took=$(($(date +%s%N) - begun))
         [ -n "$best" ] && [ "$best" -le "$took" ] || best=$took
     done

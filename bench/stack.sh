@@ -1,11 +1,11 @@
 #!/usr/bin/env bash
 # How much stack the parser takes on the texts that nest as deep as they may: for each kind of nest, the least
 # limit of the stack, in KiB, at which the built program still answers. Build it first:
-# (cd crates/parse_bench && rt run -- </dev/null).
+# (cd crates/front_bench && rt run -- </dev/null).
 set -u
 cd "$(dirname "$0")/.." || exit 2
-program=$PWD/crates/parse_bench/out/parse_bench
-[ -x "$program" ] || { echo "build crates/parse_bench first"; exit 2; }
+program=$PWD/crates/front_bench/out/front_bench
+[ -x "$program" ] || { echo "build crates/front_bench first"; exit 2; }
 work=$(mktemp -d) || exit 2
 trap 'rm -rf "$work"' EXIT
 

@@ -1,27 +1,40 @@
-// Reads a source text from standard input, and prints how many declarations its file has, or its fault.
-// `bench/parse.sh` times it.
+// Reads a source text from standard input, and prints how many tokens it has and how many declarations its file has,
+// or its fault. With the word `lex` it stops behind the tokens. `bench/lex.sh` and `bench/parse.sh` time it.
 #![tactic(auto)]
 
 use odc_lex::{LexError, lex};
 use odc_lookahead::error::ParseError;
 use odc_parse::parse::parse_file;
+use odc_syntax::token::Tokens;
 use odc_text::code::{Fault, code_name};
 use odc_text::place::FileId;
 use odc_tree::discard::discard_decls;
+use std::env;
 use std::io;
 use std::io::Read;
 
 fn main(rt: HostRuntime) -> io::Result<()> {
+    let lex_alone = env::args(&rt)?.count() > 1;
     let mut text = Vec::new(rt.alloc());
     rt.reader().read_to_end(&mut text)?;
     if text.len() >= 0xFFFF_FFFF {
         return println!(rt; "too long");
     }
-    let tokens = match lex(rt.alloc(), FileId { number: 0 }, text.as_slice()) {
-        Ok(tokens) => tokens,
-        Err(LexError::Fault(fault)) => return say(rt, fault),
-        Err(LexError::Memory) => return println!(rt; "memory ran out"),
-    };
+    match lex(rt.alloc(), FileId { number: 0 }, text.as_slice()) {
+        Ok(tokens) => {
+            if lex_alone {
+                let count = tokens.list.len();
+                println!(rt; "{count} tokens")
+            } else {
+                parse(rt, tokens)
+            }
+        }
+        Err(LexError::Fault(fault)) => say(rt, fault),
+        Err(LexError::Memory) => println!(rt; "memory ran out"),
+    }
+}
+
+fn parse(rt: HostRuntime, tokens: Tokens) -> io::Result<()> {
     match parse_file(rt.alloc(), &tokens) {
         Ok(tree) => {
             let (count, declarations) = (tokens.list.len(), tree.decls.len());
