@@ -9,9 +9,8 @@ use odc_syntax::token::Tokens;
 use odc_text::code::{Fault, code_name};
 use odc_text::place::FileId;
 use odc_tree::discard::discard_decls;
-use std::env;
-use std::io;
 use std::io::Read;
+use std::{env, io};
 
 fn main(rt: HostRuntime) -> io::Result<()> {
     let lex_alone = env::args(&rt)?.count() > 1;

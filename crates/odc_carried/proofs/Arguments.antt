@@ -80,17 +80,17 @@ pub evaluated_more : (S : Site) (n : ℕ) (e : CoreExpr) (es : Exprs) (s : State
 evaluated_more S n e es s h r m (inr x) rest = inr (record { place = x.place; cost = x.cost; is = ap (λ (q : Res Leave State Value). then_by q (λ v. (λ t. then_by (m t) (λ vs. (λ u. ok (v ∷ vs) u))))) x.is })
 evaluated_more S n e es s h r m (inl x) rest = elim (rest x.cost) [
   | inl y ↦ inl (record {
-      values = x.value ∷ y.values;
-      words = x.word ∷ y.words;
-      cost = y.cost;
-      paid = x.paid + y.paid;
-      is = ap (λ (q : Res Leave State Value). then_by q (λ v. (λ t. then_by (m t) (λ vs. (λ u. ok (v ∷ vs) u))))) x.is ∙ ap (λ (q : Res Leave State (List Value)). then_by q (λ vs. (λ u. ok (x.value ∷ vs) u))) y.is;
-      enough = omega (arith, x.enough, y.enough);
-      holds = (x.holds, y.holds);
-      counted = omega (arith, y.counted);
-      quiet = (let q : QuietAll S (more e es) h (x.word ∷ y.words) (2 * x.paid + 2 * y.paid) = quiet_more S e es h x.word (2 * x.paid) (2 * y.paid) y.words x.quiet y.quiet in
-          record { budget = q.budget; cost = q.cost; runs = q.runs; cheap = omega (arith, q.cheap) });
-    })
+    values = x.value ∷ y.values;
+    words = x.word ∷ y.words;
+    cost = y.cost;
+    paid = x.paid + y.paid;
+    is = ap (λ (q : Res Leave State Value). then_by q (λ v. (λ t. then_by (m t) (λ vs. (λ u. ok (v ∷ vs) u))))) x.is ∙ ap (λ (q : Res Leave State (List Value)). then_by q (λ vs. (λ u. ok (x.value ∷ vs) u))) y.is;
+    enough = omega (arith, x.enough, y.enough);
+    holds = (x.holds, y.holds);
+    counted = omega (arith, y.counted);
+    quiet = (let q : QuietAll S (more e es) h (x.word ∷ y.words) (2 * x.paid + 2 * y.paid) = quiet_more S e es h x.word (2 * x.paid) (2 * y.paid) y.words x.quiet y.quiet in
+        record { budget = q.budget; cost = q.cost; runs = q.runs; cheap = omega (arith, q.cheap) });
+  })
   | inr y ↦ inr (record { place = y.place; cost = y.cost; is = ap (λ (q : Res Leave State Value). then_by q (λ v. (λ t. then_by (m t) (λ vs. (λ u. ok (v ∷ vs) u))))) x.is ∙ ap (λ (q : Res Leave State (List Value)). then_by q (λ vs. (λ u. ok (x.value ∷ vs) u))) y.is })
 ]
 

@@ -38,19 +38,34 @@ pub record Operator (S : Site) (Is2 Is3 : Value → ℕ → Type 0) (o1 : Binary
 module _ (S : Site) (at : Place) where
   pub plain_operator : (o1 : BinaryOp) → is_plain o1 ≡ true → Operator S (Val S.entries 8) (Val S.entries 8) o1 at
   plain_operator op.Add e = record {
-    k = 0; q = 1; fits = lit≤ tt; res = λ a b. bytes_of 8 (plus a b); fw = plus; val2 = λ v w x. x;
+    k = 0;
+    q = 1;
+    fits = lit≤ tt;
+    res = λ a b. bytes_of 8 (plus a b);
+    fw = plus;
+    val2 = λ v w x. x;
     law = λ a b v p q x u. worded u (residue (2 ^ 64) (cast_signed w64 a +ℤ cast_signed w64 b)) (plus a b) (added a b p q);
     good = λ a b p q. val_word S.entries (plus a b) (omega arith);
     quiet = λ x y h a b L M p q qx qy. quiet_binary S Add x y h a b L M (omega arith) qx qy;
   }
   plain_operator op.Subtract e = record {
-    k = 0; q = 1; fits = lit≤ tt; res = λ a b. bytes_of 8 (minus a b); fw = minus; val2 = λ v w x. x;
+    k = 0;
+    q = 1;
+    fits = lit≤ tt;
+    res = λ a b. bytes_of 8 (minus a b);
+    fw = minus;
+    val2 = λ v w x. x;
     law = λ a b v p q x u. worded u (residue (2 ^ 64) (cast_signed w64 a -ℤ cast_signed w64 b)) (minus a b) (subtracted a b p q);
     good = λ a b p q. val_word S.entries (minus a b) (omega arith);
     quiet = λ x y h a b L M p q qx qy. quiet_binary S Subtract x y h a b L M (omega arith) qx qy;
   }
   plain_operator op.Multiply e = record {
-    k = 0; q = 1; fits = lit≤ tt; res = λ a b. bytes_of 8 (a * b % 2 ^ 64); fw = λ a b. a * b % 2 ^ 64; val2 = λ v w x. x;
+    k = 0;
+    q = 1;
+    fits = lit≤ tt;
+    res = λ a b. bytes_of 8 (a * b % 2 ^ 64);
+    fw = λ a b. a * b % 2 ^ 64;
+    val2 = λ v w x. x;
     law = λ a b v p q x u. worded u (residue (2 ^ 64) (cast_signed w64 a *ℤ cast_signed w64 b)) (a * b % 2 ^ 64) (multiplied a b p q);
     good = λ a b p q. val_word S.entries (a * b % 2 ^ 64) (omega arith);
     quiet = λ x y h a b L M p q qx qy. quiet_binary S Multiply x y h a b L M (omega arith) qx qy;
@@ -60,13 +75,23 @@ module _ (S : Site) (at : Place) where
   -- quotients, where the divisor isn't zero; and what they do where it is
   pub quotient_operator : (o1 : BinaryOp) → is_quotient o1 ≡ true → Operator S (IsDivisor S) (Val S.entries 8) o1 at
   quotient_operator op.Divide e = record {
-    k = 0; q = 1; fits = lit≤ tt; res = λ a b. bytes_of 8 (quotient w64 a b); fw = quotient w64; val2 = λ v w x. x.val;
+    k = 0;
+    q = 1;
+    fits = lit≤ tt;
+    res = λ a b. bytes_of 8 (quotient w64 a b);
+    fw = quotient w64;
+    val2 = λ v w x. x.val;
     law = λ a b v p q x u. some_divisor at u (int_div (cast_signed w64 a) (cast_signed w64 b)) b q x.some ∙ worded u (residue (2 ^ 64) (int_div (cast_signed w64 a) (cast_signed w64 b))) (quotient w64 a b) (divided_word a b p x.some);
     good = λ a b p q. val_word S.entries (quotient w64 a b) (quotient_small a b p);
     quiet = λ x y h a b L M p q qx qy. quiet_binary S Divide x y h a b L M (quotient_small a b p) qx qy;
   }
   quotient_operator op.Remainder e = record {
-    k = 0; q = 1; fits = lit≤ tt; res = λ a b. bytes_of 8 (remainder w64 a b); fw = remainder w64; val2 = λ v w x. x.val;
+    k = 0;
+    q = 1;
+    fits = lit≤ tt;
+    res = λ a b. bytes_of 8 (remainder w64 a b);
+    fw = remainder w64;
+    val2 = λ v w x. x.val;
     law = λ a b v p q x u. some_divisor at u (int_rem (cast_signed w64 a) (cast_signed w64 b)) b q x.some ∙ worded u (residue (2 ^ 64) (int_rem (cast_signed w64 a) (cast_signed w64 b))) (remainder w64 a b) (rest_word a b p x.some);
     good = λ a b p q. val_word S.entries (remainder w64 a b) (remainder_small a b p);
     quiet = λ x y h a b L M p q qx qy. quiet_binary S Remainder x y h a b L M (remainder_small a b p) qx qy;
@@ -85,7 +110,12 @@ module _ (S : Site) (at : Place) where
   compare_by : (o1 : BinaryOp) → (q : ℕ) → q ≤ 4 → ((a b : ℕ) (u : State) → calculate at o1 8 (cast_signed w64 a) (cast_signed w64 b) u ≡ ok (truth_bytes (said o1 a b)) (costing u (u.cost + 1))) →
       ((x y : CoreExpr) (h : Face) (a b L M : ℕ) → a < 2 ^ 64 → b < 2 ^ 64 → Quiet S x h a L → Quiet S y h b M → Quiet S (binary_code o1 x y) h (flag (said o1 a b)) (L + M + q)) → Operator S (Val S.entries 8) IsTruth o1 at
   compare_by o1 q fits law quiet = record {
-    k = 1; q = q; fits = fits; res = λ a b. truth_bytes (said o1 a b); fw = λ a b. flag (said o1 a b); val2 = λ v w x. x;
+    k = 1;
+    q = q;
+    fits = fits;
+    res = λ a b. truth_bytes (said o1 a b);
+    fw = λ a b. flag (said o1 a b);
+    val2 = λ v w x. x;
     law = λ a b v p q x u. law a b u;
     good = λ a b p q. record { b = said o1 a b; value = refl; word = refl };
     quiet = quiet;
