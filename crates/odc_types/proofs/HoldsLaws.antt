@@ -12,16 +12,16 @@ use Rattle.odc_types.specs.Nodes as nodes
 use Rattle.odc_types.specs.Nodes.{Node}
 use Rattle.odc_types.specs.Parts.{HasPartsBelow}
 use Rattle.odc_types.specs.Holds.{parts_in, IsOrHolds, itself, part, IsHeldBy, IsMarked, lack, unmarked, HasMarked}
-use Rattle.odc_types.proofs.LayoutLaws.{get_elsewhere}
+use Rattle.odc_types.proofs.Lists.{get_elsewhere}
 
-one_of : (t u : TyId) → Contains (t ∷ []) u → t ≡ u
+pub one_of : (t u : TyId) → Contains (t ∷ []) u → t ≡ u
 one_of t u (zero, h, e) = e
 one_of t u (suc k, h, e) = absurd (omega arith)
 
 pub none_of : (u : TyId) → Contains [] u → ⊥
 none_of u (k, h, e) = absurd (omega arith)
 
-the_one : (t : TyId) → Contains (t ∷ []) t
+pub the_one : (t : TyId) → Contains (t ∷ []) t
 the_one t = (0, omega arith, refl)
 
 some_true : (b : Bool) → Some b ≡ Some true → b ≡ true

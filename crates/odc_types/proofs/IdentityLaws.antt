@@ -10,7 +10,7 @@ use Rattle.odc_types.specs.declared.ty.Param.{Param}
 use Rattle.std.proofs.lemmas.List.{length-append, length-set}
 use Rattle.std.proofs.lemmas.List.Elements.{All-head, All-tail}
 use Rattle.odc_types.specs.Parts.{IsUndefined, IsSameName, HasPartsBelow}
-use Rattle.odc_types.proofs.LayoutLaws.{get_front, get_elsewhere}
+use Rattle.odc_types.proofs.Lists.{get_front, get_elsewhere}
 
 all_same : (f g : ℕ → Identity) (ts : List TyId) → AreWhole (all_of f ts) → ((t : ℕ) → IsWhole (f t) → g t ≡ f t) → all_of g ts ≡ all_of f ts
 all_same f g [] w h = refl

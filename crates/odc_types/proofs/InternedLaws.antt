@@ -14,6 +14,7 @@ use Rattle.odc_types.specs.declared.ty.Field.{Field}
 use Rattle.odc_types.specs.declared.ty.Param.{Param}
 use Rattle.odc_types.specs.Identity.{Root, named, Identity, Identities, tree, unknown, none, more, root_of, all_of, identity_at, identity_of, identity_of_node, IsWhole, IsWholeTable, counted}
 use Rattle.odc_types.specs.Parts.{HasPartsBelow, IsUndefined, IsSameName}
+use Rattle.odc_types.specs.Below.{AreBelow}
 use Rattle.odc_types.specs.Keys.{IsKeyOf, IsSameKey, kind_of, numbers_of}
 use Rattle.odc_types.specs.Interned.{HaveOneKey, IsFresh, IsAt, AreKeysOf, IsInterned}
 use Rattle.odc_types.proofs.KeyLemmas.{one_key, same_key, key_at, type_at_key, keys_added}
@@ -24,7 +25,7 @@ pub unfolds : (types : List Node) → IsWholeTable types → (t : ℕ) (n : Node
 unfolds types table t n e =
     sym (identity_deeper types (length types) t (table.whole t (slice_get_within types t n e))) ∙ ap (λ o. identity_at (identity_of types) o) e
 
-some_type : (types : List Node) (t : ℕ) → t < length types → (n : Node) × (slice_get types t ≡ Some n)
+pub some_type : (types : List Node) (t : ℕ) → t < length types → (n : Node) × (slice_get types t ≡ Some n)
 some_type [] t h = absurd (omega arith)
 some_type (n ∷ ns) zero h = (n, refl)
 some_type (n ∷ ns) (suc t) h = some_type ns t (omega arith)
@@ -35,11 +36,6 @@ tree_root r s ps qs e = cc
 tree_parts : (r s : Root) (ps qs : Identities) → tree r ps ≡ tree s qs → ps ≡ qs
 tree_parts r s ps qs e = cc
 
--- the numbers in a list are those of types in a table of so many
-abbrev AreBelow : ℕ → List TyId → Type 0
-AreBelow n [] = Unit {0}
-AreBelow n (t ∷ ts) = (t.index < n) × AreBelow n ts
-
 all_below : (n : ℕ) (ts : List TyId) → All (λ (t : TyId). t.index < n) ts → AreBelow n ts
 all_below n [] h = tt
 all_below n (t ∷ ts) h = (All-head (λ (t : TyId). t.index < n) t ts h, all_below n ts (All-tail (λ (t : TyId). t.index < n) t ts h))
@@ -48,7 +44,7 @@ signature_below : (n : ℕ) (ps : List Param) (rs : List TyId) → All (λ (p : 
 signature_below n [] rs hp hr = all_below n rs hr
 signature_below n (p ∷ ps) rs hp hr = (All-head (λ (p : Param). p.ty.index < n) p ps hp, signature_below n ps rs (All-tail (λ (p : Param). p.ty.index < n) p ps hp) hr)
 
-counted_below : (n : ℕ) (node : Node) → HasPartsBelow n node → AreBelow n (counted node)
+pub counted_below : (n : ℕ) (node : Node) → HasPartsBelow n node → AreBelow n (counted node)
 counted_below n (nodes.pointer to) h = (h, tt)
 counted_below n (nodes.array count of) h = (h, tt)
 counted_below n (nodes.slice of) h = (h, tt)

@@ -1,9 +1,15 @@
 pub mod WidthLemmas
 pub mod MeasureLemmas
+pub mod Lists
+pub mod Unfolding
 pub mod LayoutLaws
 pub mod IdentityLaws
 pub mod KeyLemmas
 pub mod KeyTests
 pub mod InternedLaws
 pub mod MeasuredLaws
+pub mod BlockedLaws
+pub mod HeightLaws
+pub mod SpreadLaws
+pub mod TableLaws
 pub mod HoldsLaws

@@ -1,106 +1,116 @@
 -- What a walk along the parts of a type holds at each of them.
-use Rattle.std.proofs.Common.{◌≡◌, ℕ, suc, ◌+◌, ◌-◌, ◌*◌, ◌%◌, ◌^◌, ◌<◌, ◌≤◌, max, List, [], ◌∷◌, Option, Some, None, length, drop, get_or, refl, sym, ◌∙◌, ap, subst, arith, map, zero}
+use Rattle.std.proofs.Common.{◌≡◌, ℕ, suc, ◌+◌, ◌-◌, ◌*◌, ◌%◌, ◌^◌, ◌<◌, ◌≤◌, max, min, List, [], ◌∷◌, Option, Some, None, length, drop, get_or, refl, sym, ◌∙◌, ap, subst, arith, map, zero}
 use Rattle.std.specs.Ordering.{ord_max, nat_cmp}
 use Rattle.std.proofs.lemmas.Bool.Decides.{nat_tests}
 use Rattle.std.proofs.Math.Numerals.{add-one}
 use Rattle.std.proofs.lemmas.List.{get_or-map, length-map}
 use Rattle.std.specs.Option.{option_map, SomeIff}
-use Rattle.std.specs.Prelude.{◌≢◌, IsSome, unwrap_or}
+use Rattle.std.specs.Prelude.{◌≢◌, IsSome, unwrap_or, Result, Ok, Err, IfErr}
 use Rattle.std.proofs.Math.Nat.{mod-eq_of_lt}
 use Rattle.std.proofs.Math.Seq.{drop-cons}
 use Rattle.odc_types.specs.declared.extent.Extent.{Extent}
-use Rattle.odc_types.specs.Layout.{Layout, Layouts, none, more, scalar, words, array, struct, union, size, align, end_of, greatest, widest, arrays, all_of, round_up, begin_of, count_of, fields_in}
-use Rattle.odc_types.specs.Clipped.{IsHeld, IsMeasured, kept_at, AreKept}
+use Rattle.odc_types.specs.Heights.{clipped}
+use Rattle.odc_types.specs.Layout.{Layout, Layouts, none, more, scalar, words, array, struct, union, distinct, size, align, depth, deepest, end_of, greatest, widest, wide, column, all_of, round_up, begin_of, count_of, fields_in}
+use Rattle.odc_types.specs.Clipped.{IsHeld, IsExtent, IsMeasured, kept_at, AreKept}
 
 -- what is missing to a multiple, where something is
 pub missing_part : (n a : ℕ) → 0 < a → 0 < n % a → (a - n % a) % a ≡ a - n % a
 missing_part n a positive rest = let less : a - n % a < a = omega arith in mod-eq_of_lt less
 
--- where so many arrays over each of the parts end, and the greatest alignment
-abbrev pub walked : ℕ → ℕ → ℕ → List (Option Layout) → Option (ℕ × ℕ)
-walked count end al [] = Some (end, al)
-walked count end al (None ∷ ps) = None
-walked count end al (Some l ∷ ps) = walked count (round_up end (align l) + count * size l) (max al (align l)) ps
+pub clipped_max : (a b m n : ℕ) → a ≡ clipped m → b ≡ clipped n → max a b ≡ clipped (max m n)
+clipped_max a b m n e h = omega arith
 
-abbrev pub walked_to : ℕ → ℕ → ℕ → Layouts → ℕ × ℕ
-walked_to count end al ls = (end_of end (arrays count ls), max al (greatest (arrays count ls)))
-
-max_thrice : (a b c : ℕ) → max (max a b) c ≡ max a (max b c)
+pub max_thrice : (a b c : ℕ) → max (max a b) c ≡ max a (max b c)
 max_thrice a b c = omega arith
 
-walked_first : (count end al : ℕ) (l : Layout) (o : Option Layouts) →
-    option_map (walked_to count (round_up end (align l) + count * size l) (max al (align l))) o ≡ option_map (walked_to count end al) (option_map (more l) o)
-walked_first count end al l None = refl
-walked_first count end al l (Some ls) = ap (λ m. Some (end_of (round_up end (align l) + count * size l) (arrays count ls), m)) (max_thrice al (align l) (greatest (arrays count ls)))
+-- where parts end that follow one another, their greatest alignment, and their greatest depth
+pub record Walk : Type 0 where
+  pub end : ℕ
+  pub widest : ℕ
+  pub deep : ℕ
 
-walked_is : (count end al : ℕ) (ps : List (Option Layout)) → 0 < al → walked count end al ps ≡ option_map (walked_to count end al) (all_of ps)
-walked_is count end al [] h = ap (λ m. Some (end, m)) (omega arith)
-walked_is count end al (None ∷ ps) h = refl
-walked_is count end al (Some l ∷ ps) h =
-    walked_is count (round_up end (align l) + count * size l) (max al (align l)) ps (omega arith) ∙ walked_first count end al l (all_of ps)
+abbrev pub walk : ℕ → ℕ → ℕ → Walk
+walk end al deep = record { end = end; widest = al; deep = deep }
+
+abbrev pub walked : ℕ → ℕ → ℕ → List (Option Layout) → Option Walk
+walked end al deep [] = Some (walk end al deep)
+walked end al deep (None ∷ ps) = None
+walked end al deep (Some l ∷ ps) = walked (round_up end (align l) + size l) (max al (align l)) (max deep (depth l)) ps
+
+abbrev pub walked_to : ℕ → ℕ → ℕ → Layouts → Walk
+walked_to end al deep ls = walk (end_of end ls) (max al (greatest ls)) (max deep (deepest ls))
+
+walk_same : (end a b m n : ℕ) → a ≡ b → m ≡ n → walk end a m ≡ walk end b n
+walk_same end a b m n e h = ap (λ x. walk end x m) e ∙ ap (λ x. walk end b x) h
+
+walked_first : (end al deep : ℕ) (l : Layout) (o : Option Layouts) →
+    option_map (walked_to (round_up end (align l) + size l) (max al (align l)) (max deep (depth l))) o ≡ option_map (walked_to end al deep) (option_map (more l) o)
+walked_first end al deep l None = refl
+walked_first end al deep l (Some ls) = ap Some (walk_same _ _ _ _ _ (max_thrice al (align l) (greatest ls)) (max_thrice deep (depth l) (deepest ls)))
+
+walked_is : (end al deep : ℕ) (ps : List (Option Layout)) → 0 < al → walked end al deep ps ≡ option_map (walked_to end al deep) (all_of ps)
+walked_is end al deep [] h = ap Some (walk_same end al (max al 1) deep (max deep 0) (omega arith) (omega arith))
+walked_is end al deep (None ∷ ps) h = refl
+walked_is end al deep (Some l ∷ ps) h =
+    walked_is (round_up end (align l) + size l) (max al (align l)) (max deep (depth l)) ps (omega arith) ∙ walked_first end al deep l (all_of ps)
 
 -- so far along the parts
-pub record IsWalking (count : ℕ) (parts : List (Option Layout)) (index : ℕ) (end : Option ℕ) (al : ℕ) : Type 0 where
+pub record IsWalking (parts : List (Option Layout)) (index : ℕ) (end : Option ℕ) (al : ℕ) (levels : ℕ) : Type 0 where
   pub at : ℕ
+  pub deep : ℕ
   pub held : IsHeld end at
   pub positive : 0 < al
-  pub along : walked count 0 1 parts ≡ walked count at al (drop index parts)
+  pub counted : levels ≡ clipped deep
+  pub along : walked 0 1 0 parts ≡ walked at al deep (drop index parts)
 
-pub walk_begins : (count : ℕ) (parts : List (Option Layout)) → IsWalking count parts 0 (Some 0) 1
-walk_begins count parts = record {
+pub walk_begins : (parts : List (Option Layout)) → IsWalking parts 0 (Some 0) 1 0
+walk_begins parts = record {
   at = 0;
+  deep = 0;
   held = (refl, omega arith);
   positive = omega arith;
+  counted = omega arith;
   along = refl;
 }
 
-walk_by : (count : ℕ) (parts : List (Option Layout)) (index : ℕ) (end : Option ℕ) (al : ℕ) (w : IsWalking count parts index end al) (part : Extent) (l : Option Layout) (rest : List (Option Layout)) → drop index parts ≡ l ∷ rest → rest ≡ drop (index + 1) parts →
-    IsMeasured (Some part) l → (after : Option ℕ) → ((s : ℕ) → IsHeld part.size s → IsHeld after (round_up w.at part.align + count * s)) →
-    IsWalking count parts (index + 1) after (max al part.align)
-walk_by count parts index end al w part None rest e r m after held = absurd m
-walk_by count parts index end al w part (Some l) rest e r m after held = record {
-  at = round_up w.at (align l) + count * size l;
-  held = subst (λ a. IsHeld after (round_up w.at a + count * size l)) m.aligned (held (size l) m.size_held);
+walk_by : (parts : List (Option Layout)) (index : ℕ) (end : Option ℕ) (al levels : ℕ) (w : IsWalking parts index end al levels) (part : Extent) (l : Option Layout) (rest : List (Option Layout)) → drop index parts ≡ l ∷ rest → rest ≡ drop (index + 1) parts →
+    IsMeasured (Some part) l → (after : Option ℕ) → ((s : ℕ) → IsHeld part.size s → IsHeld after (round_up w.at part.align + s)) →
+    IsWalking parts (index + 1) after (max al part.align) (max levels part.depth)
+walk_by parts index end al levels w part None rest e r m after held = absurd m
+walk_by parts index end al levels w part (Some l) rest e r m after held = record {
+  at = round_up w.at (align l) + size l;
+  deep = max w.deep (depth l);
+  held = subst (λ a. IsHeld after (round_up w.at a + size l)) m.aligned (held (size l) m.size_held);
   positive = let p = w.positive in omega arith;
-  along = w.along ∙ ap (λ ps. walked count w.at al ps) e ∙ ap (λ ps. walked count (round_up w.at (align l) + count * size l) (max al (align l)) ps) r ∙ ap (λ a. walked count (round_up w.at (align l) + count * size l) (max al a) (drop (index + 1) parts)) (sym m.aligned);
+  counted = clipped_max levels part.depth w.deep (depth l) w.counted m.deep;
+  along = w.along ∙ ap (λ ps. walked w.at al w.deep ps) e ∙ ap (λ ps. walked (round_up w.at (align l) + size l) (max al (align l)) (max w.deep (depth l)) ps) r ∙ ap (λ a. walked (round_up w.at (align l) + size l) (max al a) (max w.deep (depth l)) (drop (index + 1) parts)) (sym m.aligned);
 }
 
-pub walk_on : (count : ℕ) (parts : List (Option Layout)) (index : ℕ) (end : Option ℕ) (al : ℕ) (w : IsWalking count parts index end al) (part : Extent) → index < length parts →
-    IsMeasured (Some part) (get_or parts index None) → (after : Option ℕ) → ((s : ℕ) → IsHeld part.size s → IsHeld after (round_up w.at part.align + count * s)) →
-    IsWalking count parts (index + 1) after (max al part.align)
-walk_on count parts index end al w part h m after held =
-    walk_by count parts index end al w part (get_or parts index None) (drop (suc index) parts) (drop-cons parts index None h) (ap (λ i. drop i parts) (sym (add-one index))) m after held
-
-none_by : (count at al : ℕ) (o : Option Layouts) → option_map (walked_to count at al) o ≡ None → IsMeasured None (option_map (λ ls. struct (arrays count ls)) o)
-none_by count at al None e = tt
-none_by count at al (Some ls) e = cc
-
--- a part without a layout: the whole has none
-pub walk_stops : (count : ℕ) (parts : List (Option Layout)) (index : ℕ) (end : Option ℕ) (al : ℕ) → IsWalking count parts index end al → index < length parts →
-    IsMeasured None (get_or parts index None) → IsMeasured None (option_map (λ ls. struct (arrays count ls)) (all_of parts))
-walk_stops count parts index end al w h m = none_by count 0 1 (all_of parts) (sym (walked_is count 0 1 parts (omega arith)) ∙ w.along ∙ ap (λ ps. walked count w.at al ps) (drop-cons parts index None h) ∙ stops_by count w.at al (get_or parts index None) (drop (suc index) parts) m)
-  where
-    stops_by : (count at al : ℕ) (l : Option Layout) (rest : List (Option Layout)) → IsMeasured None l → walked count at al (l ∷ rest) ≡ None
-    stops_by count at al None rest m = refl
-    stops_by count at al (Some l) rest m = absurd m
+pub walk_on : (parts : List (Option Layout)) (index : ℕ) (end : Option ℕ) (al levels : ℕ) (w : IsWalking parts index end al levels) (part : Extent) → index < length parts →
+    IsMeasured (Some part) (get_or parts index None) → (after : Option ℕ) → ((s : ℕ) → IsHeld part.size s → IsHeld after (round_up w.at part.align + s)) →
+    IsWalking parts (index + 1) after (max al part.align) (max levels part.depth)
+walk_on parts index end al levels w part h m after held =
+    walk_by parts index end al levels w part (get_or parts index None) (drop (suc index) parts) (drop-cons parts index None h) (ap (λ i. drop i parts) (sym (add-one index))) m after held
 
 greatest_positive : (ls : Layouts) → 0 < greatest ls
 greatest_positive none = omega arith
 greatest_positive (more l ls) = let h = greatest_positive ls in omega arith
 
-ends_by : (count at al : ℕ) (o : Option Layouts) (whole : Extent) → option_map (walked_to count 0 1) o ≡ Some (at, al) → IsHeld whole.size (round_up at al) → whole.align ≡ al → 0 < al →
-    IsMeasured (Some whole) (option_map (λ ls. struct (arrays count ls)) o)
-ends_by count at al None whole e held same positive = cc
-ends_by count at al (Some ls) whole e held same positive =
-    let pair : walked_to count 0 1 ls ≡ (at, al) = cc in
-    let ends : end_of 0 (arrays count ls) ≡ at = ap (λ (p : ℕ × ℕ). p.0) pair in
-    let both : max 1 (greatest (arrays count ls)) ≡ al = ap (λ (p : ℕ × ℕ). p.1) pair in
-    let least = greatest_positive (arrays count ls) in
-    let greatest_is : greatest (arrays count ls) ≡ al = omega arith in
+ends_by : (at al deep : ℕ) (o : Option Layouts) (whole : Extent) → option_map (walked_to 0 1 0) o ≡ Some (walk at al deep) → IsHeld whole.size (round_up at al) → whole.align ≡ al → whole.depth ≡ clipped (deep + 1) → 0 < al →
+    IsMeasured (Some whole) (option_map struct o)
+ends_by at al deep None whole e held same levels positive = cc
+ends_by at al deep (Some ls) whole e held same levels positive =
+    let pair : walked_to 0 1 0 ls ≡ walk at al deep = cc in
+    let ends : end_of 0 ls ≡ at = ap (λ (p : Walk). p.end) pair in
+    let both : max 1 (greatest ls) ≡ al = ap (λ (p : Walk). p.widest) pair in
+    let down : max 0 (deepest ls) ≡ deep = ap (λ (p : Walk). p.deep) pair in
+    let least = greatest_positive ls in
+    let greatest_is : greatest ls ≡ al = omega arith in
     record {
-      size_held = subst (λ n. IsHeld whole.size (round_up n (greatest (arrays count ls)))) (sym ends) (subst (λ a. IsHeld whole.size (round_up at a)) (sym greatest_is) held);
+      size_held = subst (λ n. IsHeld whole.size (round_up n (greatest ls))) (sym ends) (subst (λ a. IsHeld whole.size (round_up at a)) (sym greatest_is) held);
       aligned = same ∙ sym greatest_is;
       positive = omega arith;
+      deep = levels ∙ ap clipped (let is : deep ≡ deepest ls = omega arith in omega arith);
     }
 
 drop_past : {A : Type 0} (xs : List A) (i : ℕ) → length xs ≤ i → drop i xs ≡ []
@@ -110,91 +120,83 @@ drop_past (x ∷ xs) zero h = absurd (omega arith)
 drop_past (x ∷ xs) (suc i) h = drop_past xs i (omega arith)
 
 -- the walk's end
-pub walk_ends : (count : ℕ) (parts : List (Option Layout)) (index : ℕ) (end : Option ℕ) (al : ℕ) (w : IsWalking count parts index end al) (whole : Extent) → length parts ≤ index →
-    IsHeld whole.size (round_up w.at al) → whole.align ≡ al → IsMeasured (Some whole) (option_map (λ ls. struct (arrays count ls)) (all_of parts))
-walk_ends count parts index end al w whole h held same =
-    ends_by count w.at al (all_of parts) whole (sym (walked_is count 0 1 parts (omega arith)) ∙ w.along ∙ ap (λ ps. walked count w.at al ps) (drop_past parts index h)) held same w.positive
+pub walk_ends : (parts : List (Option Layout)) (index : ℕ) (end : Option ℕ) (al levels : ℕ) (w : IsWalking parts index end al levels) (whole : Extent) → length parts ≤ index →
+    IsHeld whole.size (round_up w.at al) → whole.align ≡ al → whole.depth ≡ clipped (w.deep + 1) → IsMeasured (Some whole) (option_map struct (all_of parts))
+walk_ends parts index end al levels w whole h held same deep =
+    ends_by w.at al w.deep (all_of parts) whole (sym (walked_is 0 1 0 parts (omega arith)) ∙ w.along ∙ ap (λ ps. walked w.at al w.deep ps) (drop_past parts index h)) held same deep w.positive
 
--- the greatest size of the parts
-abbrev pub overlaid : ℕ → List (Option Layout) → Option ℕ
-overlaid most [] = Some most
-overlaid most (None ∷ ps) = None
-overlaid most (Some l ∷ ps) = overlaid (max most (size l)) ps
+-- the greatest size of the parts, and their greatest depth
+pub record Overlay : Type 0 where
+  pub widest : ℕ
+  pub deep : ℕ
 
-overlaid_first : (most : ℕ) (l : Layout) (o : Option Layouts) → option_map (λ ls. max (max most (size l)) (widest ls)) o ≡ option_map (λ ls. max most (widest ls)) (option_map (more l) o)
-overlaid_first most l None = refl
-overlaid_first most l (Some ls) = ap (λ m. Some m) (max_thrice most (size l) (widest ls))
+abbrev pub overlay : ℕ → ℕ → Overlay
+overlay most deep = record { widest = most; deep = deep }
 
-overlaid_is : (most : ℕ) (ps : List (Option Layout)) → overlaid most ps ≡ option_map (λ ls. max most (widest ls)) (all_of ps)
-overlaid_is most [] = ap (λ m. Some m) (omega arith)
-overlaid_is most (None ∷ ps) = refl
-overlaid_is most (Some l ∷ ps) = overlaid_is (max most (size l)) ps ∙ overlaid_first most l (all_of ps)
+abbrev pub overlaid : ℕ → ℕ → List (Option Layout) → Option Overlay
+overlaid most deep [] = Some (overlay most deep)
+overlaid most deep (None ∷ ps) = None
+overlaid most deep (Some l ∷ ps) = overlaid (max most (size l)) (max deep (depth l)) ps
 
-pub record IsOverlaying (parts : List (Option Layout)) (index : ℕ) (widest : Option ℕ) : Type 0 where
+abbrev pub overlaid_to : ℕ → ℕ → Layouts → Overlay
+overlaid_to most deep ls = overlay (max most (widest ls)) (max deep (deepest ls))
+
+overlay_same : (a b m n : ℕ) → a ≡ b → m ≡ n → overlay a m ≡ overlay b n
+overlay_same a b m n e h = ap (λ x. overlay x m) e ∙ ap (λ x. overlay b x) h
+
+overlaid_first : (most deep : ℕ) (l : Layout) (o : Option Layouts) → option_map (overlaid_to (max most (size l)) (max deep (depth l))) o ≡ option_map (overlaid_to most deep) (option_map (more l) o)
+overlaid_first most deep l None = refl
+overlaid_first most deep l (Some ls) = ap Some (overlay_same _ _ _ _ (max_thrice most (size l) (widest ls)) (max_thrice deep (depth l) (deepest ls)))
+
+overlaid_is : (most deep : ℕ) (ps : List (Option Layout)) → overlaid most deep ps ≡ option_map (overlaid_to most deep) (all_of ps)
+overlaid_is most deep [] = ap Some (overlay_same most (max most 0) deep (max deep 0) (omega arith) (omega arith))
+overlaid_is most deep (None ∷ ps) = refl
+overlaid_is most deep (Some l ∷ ps) = overlaid_is (max most (size l)) (max deep (depth l)) ps ∙ overlaid_first most deep l (all_of ps)
+
+pub record IsOverlaying (parts : List (Option Layout)) (index : ℕ) (widest : Option ℕ) (levels : ℕ) : Type 0 where
   pub most : ℕ
+  pub deep : ℕ
   pub held : IsHeld widest most
-  pub along : overlaid 0 parts ≡ overlaid most (drop index parts)
+  pub counted : levels ≡ clipped deep
+  pub along : overlaid 0 0 parts ≡ overlaid most deep (drop index parts)
 
-overlay_by : (parts : List (Option Layout)) (index : ℕ) (wide : Option ℕ) (w : IsOverlaying parts index wide) (part : Extent) (l : Option Layout) (rest : List (Option Layout)) → drop index parts ≡ l ∷ rest → rest ≡ drop (index + 1) parts →
-    IsMeasured (Some part) l → (after : Option ℕ) → ((s : ℕ) → IsHeld part.size s → IsHeld after (max w.most s)) → IsOverlaying parts (index + 1) after
-overlay_by parts index wide w part None rest e r m after held = absurd m
-overlay_by parts index wide w part (Some l) rest e r m after held = record {
+pub overlay_begins : (parts : List (Option Layout)) → IsOverlaying parts 0 (Some 0) 0
+overlay_begins parts = record { most = 0; deep = 0; held = (refl, omega arith); counted = omega arith; along = refl }
+
+overlay_by : (parts : List (Option Layout)) (index : ℕ) (wide : Option ℕ) (levels : ℕ) (w : IsOverlaying parts index wide levels) (part : Extent) (l : Option Layout) (rest : List (Option Layout)) → drop index parts ≡ l ∷ rest → rest ≡ drop (index + 1) parts →
+    IsMeasured (Some part) l → (after : Option ℕ) → ((s : ℕ) → IsHeld part.size s → IsHeld after (max w.most s)) → IsOverlaying parts (index + 1) after (max levels part.depth)
+overlay_by parts index wide levels w part None rest e r m after held = absurd m
+overlay_by parts index wide levels w part (Some l) rest e r m after held = record {
   most = max w.most (size l);
+  deep = max w.deep (depth l);
   held = held (size l) m.size_held;
-  along = w.along ∙ ap (λ ps. overlaid w.most ps) e ∙ ap (λ ps. overlaid (max w.most (size l)) ps) r;
+  counted = clipped_max levels part.depth w.deep (depth l) w.counted m.deep;
+  along = w.along ∙ ap (λ ps. overlaid w.most w.deep ps) e ∙ ap (λ ps. overlaid (max w.most (size l)) (max w.deep (depth l)) ps) r;
 }
 
-pub overlay_on : (parts : List (Option Layout)) (index : ℕ) (wide : Option ℕ) (w : IsOverlaying parts index wide) (part : Extent) → index < length parts →
-    IsMeasured (Some part) (get_or parts index None) → (after : Option ℕ) → ((s : ℕ) → IsHeld part.size s → IsHeld after (max w.most s)) → IsOverlaying parts (index + 1) after
-overlay_on parts index wide w part h m after held =
-    overlay_by parts index wide w part (get_or parts index None) (drop (suc index) parts) (drop-cons parts index None h) (ap (λ i. drop i parts) (sym (add-one index))) m after held
+pub overlay_on : (parts : List (Option Layout)) (index : ℕ) (wide : Option ℕ) (levels : ℕ) (w : IsOverlaying parts index wide levels) (part : Extent) → index < length parts →
+    IsMeasured (Some part) (get_or parts index None) → (after : Option ℕ) → ((s : ℕ) → IsHeld part.size s → IsHeld after (max w.most s)) → IsOverlaying parts (index + 1) after (max levels part.depth)
+overlay_on parts index wide levels w part h m after held =
+    overlay_by parts index wide levels w part (get_or parts index None) (drop (suc index) parts) (drop-cons parts index None h) (ap (λ i. drop i parts) (sym (add-one index))) m after held
 
-union_none_by : (most : ℕ) (o : Option Layouts) → option_map (λ ls. max most (widest ls)) o ≡ None → IsMeasured None (option_map union o)
-union_none_by most None e = tt
-union_none_by most (Some ls) e = cc
-
-pub overlay_stops : (parts : List (Option Layout)) (index : ℕ) (wide : Option ℕ) → IsOverlaying parts index wide → index < length parts → IsMeasured None (get_or parts index None) →
-    IsMeasured None (option_map union (all_of parts))
-overlay_stops parts index wide w h m = union_none_by 0 (all_of parts) (sym (overlaid_is 0 parts) ∙ w.along ∙ ap (λ ps. overlaid w.most ps) (drop-cons parts index None h) ∙ stops_by w.most (get_or parts index None) (drop (suc index) parts) m)
-  where
-    stops_by : (most : ℕ) (l : Option Layout) (rest : List (Option Layout)) → IsMeasured None l → overlaid most (l ∷ rest) ≡ None
-    stops_by most None rest m = refl
-    stops_by most (Some l) rest m = absurd m
-
-union_ends_by : (most : ℕ) (o : Option Layouts) (whole : Extent) → option_map (λ ls. max 0 (widest ls)) o ≡ Some most → IsHeld whole.size (round_up most 8 + 8) → whole.align ≡ 8 → IsMeasured (Some whole) (option_map union o)
-union_ends_by most None whole e held same = cc
-union_ends_by most (Some ls) whole e held same =
-    let is : max 0 (widest ls) ≡ most = cc in
+union_ends_by : (most deep : ℕ) (o : Option Layouts) (whole : Extent) → option_map (overlaid_to 0 0) o ≡ Some (overlay most deep) → IsHeld whole.size (round_up most 8 + 8) → whole.align ≡ 8 → whole.depth ≡ clipped (deep + 1) → IsMeasured (Some whole) (option_map union o)
+union_ends_by most deep None whole e held same levels = cc
+union_ends_by most deep (Some ls) whole e held same levels =
+    let pair : overlaid_to 0 0 ls ≡ overlay most deep = cc in
+    let is : max 0 (widest ls) ≡ most = ap (λ (p : Overlay). p.widest) pair in
+    let down : max 0 (deepest ls) ≡ deep = ap (λ (p : Overlay). p.deep) pair in
     let most_is : most ≡ widest ls = omega arith in
     record {
       size_held = subst (λ n. IsHeld whole.size (round_up n 8 + 8)) most_is held;
       aligned = same;
       positive = omega arith;
+      deep = levels ∙ ap clipped (let is : deep ≡ deepest ls = omega arith in omega arith);
     }
 
-pub overlay_ends : (parts : List (Option Layout)) (index : ℕ) (wide : Option ℕ) (w : IsOverlaying parts index wide) (whole : Extent) → length parts ≤ index → IsHeld whole.size (round_up w.most 8 + 8) → whole.align ≡ 8 →
+pub overlay_ends : (parts : List (Option Layout)) (index : ℕ) (wide : Option ℕ) (levels : ℕ) (w : IsOverlaying parts index wide levels) (whole : Extent) → length parts ≤ index → IsHeld whole.size (round_up w.most 8 + 8) → whole.align ≡ 8 → whole.depth ≡ clipped (w.deep + 1) →
     IsMeasured (Some whole) (option_map union (all_of parts))
-overlay_ends parts index wide w whole h held same =
-    union_ends_by w.most (all_of parts) whole (sym (overlaid_is 0 parts) ∙ w.along ∙ ap (λ ps. overlaid w.most ps) (drop_past parts index h)) held same
-
--- a struct is its fields, each once
-once_ends : (at : ℕ) (ls : Layouts) → end_of at (arrays 1 ls) ≡ end_of at ls
-once_ends at none = refl
-once_ends at (more l ls) = once_ends (round_up at (align l) + 1 * size l) ls ∙ ap (λ n. end_of (round_up at (align l) + n) ls) (omega arith)
-
-once_greatest : (ls : Layouts) → greatest (arrays 1 ls) ≡ greatest ls
-once_greatest none = refl
-once_greatest (more l ls) = ap (λ n. max (align l) n) (once_greatest ls)
-
-pub once : (e : Option Extent) (o : Option Layouts) → IsMeasured e (option_map (λ ls. struct (arrays 1 ls)) o) → IsMeasured e (option_map struct o)
-once None None m = tt
-once None (Some ls) m = m
-once (Some e) None m = m
-once (Some e) (Some ls) m = record {
-  size_held = subst (λ n. IsHeld e.size (round_up n (greatest ls))) (once_ends 0 ls) (subst (λ a. IsHeld e.size (round_up (end_of 0 (arrays 1 ls)) a)) (once_greatest ls) m.size_held);
-  aligned = m.aligned ∙ once_greatest ls;
-  positive = m.positive;
-}
+overlay_ends parts index wide levels w whole h held same deep =
+    union_ends_by w.most w.deep (all_of parts) whole (sym (overlaid_is 0 0 parts) ∙ w.along ∙ ap (λ ps. overlaid w.most w.deep ps) (drop_past parts index h)) held same deep
 
 rounded_by : (s a : ℕ) (result : Option ℕ) → 0 < a → s % a ≢ 0 → SomeIff result (s + (a - s % a) < 2 ^ 64) (s + (a - s % a)) → IsHeld result (round_up s a)
 rounded_by s a None positive rest h = let up = missing_part s a positive (omega arith) in by_contradiction_le (s + (a - s % a) % a) (λ (less : s + (a - s % a) % a < 2 ^ 64). h (omega arith))
@@ -224,107 +226,126 @@ pub ord_max_is : (a b : ℕ) → ord_max nat_cmp a b ≡ max a b
 ord_max_is a b = grind (arith, nat_tests)
 
 -- where a column begins, if the parts before it have layouts
-abbrev pub sought : ℕ → ℕ → List (Option Layout) → ℕ → Option ℕ
-sought count at [] i = None
-sought count at (None ∷ ps) i = None
-sought count at (Some l ∷ ps) zero = Some (round_up at (align l))
-sought count at (Some l ∷ ps) (suc i) = sought count (round_up at (align l) + count * size l) ps i
+abbrev pub sought : ℕ → List (Option Layout) → ℕ → Option ℕ
+sought at [] i = None
+sought at (None ∷ ps) i = None
+sought at (Some l ∷ ps) zero = Some (round_up at (align l))
+sought at (Some l ∷ ps) (suc i) = sought (round_up at (align l) + size l) ps i
 
-seeks_first : (count : ℕ) (l : Layout) (ps : List (Option Layout)) (o : Option Layouts) → ((at i : ℕ) (ls : Layouts) → o ≡ Some ls → i < count_of (arrays count ls) → sought count at ps i ≡ Some (begin_of at (arrays count ls) i)) →
-    (at i : ℕ) (ls : Layouts) → option_map (more l) o ≡ Some ls → i < count_of (arrays count ls) → sought count at (Some l ∷ ps) i ≡ Some (begin_of at (arrays count ls) i)
-seeks_first count l ps None rest at i ls e h = cc
-seeks_first count l ps (Some os) rest at i none e h = absurd (omega arith)
-seeks_first count l ps (Some os) rest at zero (more l2 ls) e h = let same : l ≡ l2 = cc in ap (λ x. Some (round_up at (align x))) same
-seeks_first count l ps (Some os) rest at (suc i) (more l2 ls) e h =
+seeks_first : (l : Layout) (ps : List (Option Layout)) (o : Option Layouts) → ((at i : ℕ) (ls : Layouts) → o ≡ Some ls → i < count_of ls → sought at ps i ≡ Some (begin_of at ls i)) →
+    (at i : ℕ) (ls : Layouts) → option_map (more l) o ≡ Some ls → i < count_of ls → sought at (Some l ∷ ps) i ≡ Some (begin_of at ls i)
+seeks_first l ps None rest at i ls e h = cc
+seeks_first l ps (Some os) rest at i none e h = absurd (omega arith)
+seeks_first l ps (Some os) rest at zero (more l2 ls) e h = let same : l ≡ l2 = cc in ap (λ x. Some (round_up at (align x))) same
+seeks_first l ps (Some os) rest at (suc i) (more l2 ls) e h =
     let same : l ≡ l2 = cc in
     let others : os ≡ ls = cc in
-    rest (round_up at (align l) + count * size l) i ls (ap Some others) (omega arith) ∙ ap (λ x. Some (begin_of (round_up at (align x) + count * size x) (arrays count ls) i)) same
+    rest (round_up at (align l) + size l) i ls (ap Some others) (omega arith) ∙ ap (λ x. Some (begin_of (round_up at (align x) + size x) ls i)) same
 
-sought_is : (count : ℕ) (ps : List (Option Layout)) (at i : ℕ) (ls : Layouts) → all_of ps ≡ Some ls → i < count_of (arrays count ls) → sought count at ps i ≡ Some (begin_of at (arrays count ls) i)
-sought_is count [] at i none e h = absurd (omega arith)
-sought_is count [] at i (more l ls) e h = cc
-sought_is count (None ∷ ps) at i ls e h = cc
-sought_is count (Some l ∷ ps) at i ls e h = seeks_first count l ps (all_of ps) (λ at i ls. sought_is count ps at i ls) at i ls e h
+sought_is : (ps : List (Option Layout)) (at i : ℕ) (ls : Layouts) → all_of ps ≡ Some ls → i < count_of ls → sought at ps i ≡ Some (begin_of at ls i)
+sought_is [] at i none e h = absurd (omega arith)
+sought_is [] at i (more l ls) e h = cc
+sought_is (None ∷ ps) at i ls e h = cc
+sought_is (Some l ∷ ps) at i ls e h = seeks_first l ps (all_of ps) (λ at i ls. sought_is ps at i ls) at i ls e h
 
 -- so far in the search for a column
-pub record IsSeeking (count : ℕ) (parts : List (Option Layout)) (index : ℕ) (end : Option ℕ) (column : ℕ) : Type 0 where
+pub record IsSeeking (parts : List (Option Layout)) (index : ℕ) (end : Option ℕ) (goal : ℕ) : Type 0 where
   pub at : ℕ
   pub held : IsHeld end at
-  pub ahead : index ≤ column
-  pub along : sought count 0 parts column ≡ sought count at (drop index parts) (column - index)
+  pub ahead : index ≤ goal
+  pub along : sought 0 parts goal ≡ sought at (drop index parts) (goal - index)
 
-pub seek_begins : (count : ℕ) (parts : List (Option Layout)) (column : ℕ) → IsSeeking count parts 0 (Some 0) column
-seek_begins count parts column = record { at = 0; held = (refl, omega arith); ahead = omega arith; along = ap (λ n. sought count 0 parts n) (omega arith) }
+pub seek_begins : (parts : List (Option Layout)) (goal : ℕ) → IsSeeking parts 0 (Some 0) goal
+seek_begins parts goal = record { at = 0; held = (refl, omega arith); ahead = omega arith; along = ap (λ n. sought 0 parts n) (omega arith) }
 
-found_at : (count : ℕ) (parts : List (Option Layout)) (index : ℕ) (end : Option ℕ) (column : ℕ) (s : IsSeeking count parts index end column) (rest : List (Option Layout)) → drop index parts ≡ rest →
-    (ls : Layouts) → all_of parts ≡ Some ls → column < count_of (arrays count ls) → sought count s.at rest (column - index) ≡ Some (begin_of 0 (arrays count ls) column)
-found_at count parts index end column s rest e ls all h =
-    ap (λ ps. sought count s.at ps (column - index)) (sym e) ∙ sym s.along ∙ sought_is count parts 0 column ls all h
+found_at : (parts : List (Option Layout)) (index : ℕ) (end : Option ℕ) (goal : ℕ) (s : IsSeeking parts index end goal) (rest : List (Option Layout)) → drop index parts ≡ rest →
+    (ls : Layouts) → all_of parts ≡ Some ls → goal < count_of ls → sought s.at rest (goal - index) ≡ Some (begin_of 0 ls goal)
+found_at parts index end goal s rest e ls all h =
+    ap (λ ps. sought s.at ps (goal - index)) (sym e) ∙ sym s.along ∙ sought_is parts 0 goal ls all h
 
 -- a part without a layout: not all have one
-pub seek_stops : (count : ℕ) (parts : List (Option Layout)) (index : ℕ) (end : Option ℕ) (column : ℕ) → IsSeeking count parts index end column → index < length parts → IsMeasured None (get_or parts index None) →
-    (ls : Layouts) → all_of parts ≡ Some ls → column < count_of (arrays count ls) → ⊥
-seek_stops count parts index end column s h m ls all less = stops_by (get_or parts index None) (drop (suc index) parts) m (found_at count parts index end column s _ (drop-cons parts index None h) ls all less)
+pub seek_stops : (parts : List (Option Layout)) (index : ℕ) (end : Option ℕ) (goal : ℕ) → IsSeeking parts index end goal → index < length parts → get_or parts index None ≡ None →
+    (ls : Layouts) → all_of parts ≡ Some ls → goal < count_of ls → ⊥
+seek_stops parts index end goal s h m ls all less = stops_by (get_or parts index None) (drop (suc index) parts) m (found_at parts index end goal s _ (drop-cons parts index None h) ls all less)
   where
-    stops_by : (l : Option Layout) (rest : List (Option Layout)) → IsMeasured None l → sought count s.at (l ∷ rest) (column - index) ≡ Some (begin_of 0 (arrays count ls) column) → ⊥
+    stops_by : (l : Option Layout) (rest : List (Option Layout)) → l ≡ None → sought s.at (l ∷ rest) (goal - index) ≡ Some (begin_of 0 ls goal) → ⊥
     stops_by None rest m e = cc
-    stops_by (Some l) rest m e = m
+    stops_by (Some l) rest m e = cc
 
 -- no more parts: the column would have been found
-pub seek_past : (count : ℕ) (parts : List (Option Layout)) (index : ℕ) (end : Option ℕ) (column : ℕ) → IsSeeking count parts index end column → length parts ≤ index →
-    (ls : Layouts) → all_of parts ≡ Some ls → column < count_of (arrays count ls) → ⊥
-seek_past count parts index end column s h ls all less = let found : None ≡ Some (begin_of 0 (arrays count ls) column) = found_at count parts index end column s [] (drop_past parts index h) ls all less in cc
+pub seek_past : (parts : List (Option Layout)) (index : ℕ) (end : Option ℕ) (goal : ℕ) → IsSeeking parts index end goal → length parts ≤ index →
+    (ls : Layouts) → all_of parts ≡ Some ls → goal < count_of ls → ⊥
+seek_past parts index end goal s h ls all less = let found : None ≡ Some (begin_of 0 ls goal) = found_at parts index end goal s [] (drop_past parts index h) ls all less in cc
 
-here_by : (count : ℕ) (part : Extent) (at gap : ℕ) (l : Option Layout) (rest : List (Option Layout)) (begun : Option ℕ) (n : ℕ) → gap ≡ 0 → IsMeasured (Some part) l → IsHeld begun (round_up at part.align) → sought count at (l ∷ rest) gap ≡ Some n → IsHeld begun n
-here_by count part at zero None rest begun n z m held e = absurd m
-here_by count part at zero (Some l) rest begun n z m held e =
+here_by : (part : Extent) (at gap : ℕ) (l : Option Layout) (rest : List (Option Layout)) (begun : Option ℕ) (n : ℕ) → gap ≡ 0 → IsMeasured (Some part) l → IsHeld begun (round_up at part.align) → sought at (l ∷ rest) gap ≡ Some n → IsHeld begun n
+here_by part at zero None rest begun n z m held e = absurd m
+here_by part at zero (Some l) rest begun n z m held e =
     let same : round_up at (align l) ≡ n = cc in
     subst (λ x. IsHeld begun x) (ap (λ a. round_up at a) m.aligned ∙ same) held
-here_by count part at (suc gap) l rest begun n z m held e = absurd (omega arith)
+here_by part at (suc gap) l rest begun n z m held e = absurd (omega arith)
 
 -- the column's own part
-pub seek_here : (count : ℕ) (parts : List (Option Layout)) (index : ℕ) (end : Option ℕ) (column : ℕ) (s : IsSeeking count parts index end column) (part : Extent) → index < length parts → IsMeasured (Some part) (get_or parts index None) → index ≡ column →
-    (begun : Option ℕ) → IsHeld begun (round_up s.at part.align) → (ls : Layouts) → all_of parts ≡ Some ls → column < count_of (arrays count ls) → IsHeld begun (begin_of 0 (arrays count ls) column)
-seek_here count parts index end column s part h m same begun held ls all less =
-    here_by count part s.at (column - index) (get_or parts index None) (drop (suc index) parts) begun _ (omega arith) m held (found_at count parts index end column s _ (drop-cons parts index None h) ls all less)
+pub seek_here : (parts : List (Option Layout)) (index : ℕ) (end : Option ℕ) (goal : ℕ) (s : IsSeeking parts index end goal) (part : Extent) → index < length parts → IsMeasured (Some part) (get_or parts index None) → index ≡ goal →
+    (begun : Option ℕ) → IsHeld begun (round_up s.at part.align) → (ls : Layouts) → all_of parts ≡ Some ls → goal < count_of ls → IsHeld begun (begin_of 0 ls goal)
+seek_here parts index end goal s part h m same begun held ls all less =
+    here_by part s.at (goal - index) (get_or parts index None) (drop (suc index) parts) begun _ (omega arith) m held (found_at parts index end goal s _ (drop-cons parts index None h) ls all less)
 
-seek_by : (count : ℕ) (parts : List (Option Layout)) (index : ℕ) (end : Option ℕ) (column : ℕ) (s : IsSeeking count parts index end column) (part : Extent) (l : Option Layout) (rest : List (Option Layout)) → drop index parts ≡ l ∷ rest → rest ≡ drop (index + 1) parts →
-    IsMeasured (Some part) l → index ≢ column → (after : Option ℕ) → ((n : ℕ) → IsHeld part.size n → IsHeld after (round_up s.at part.align + count * n)) → IsSeeking count parts (index + 1) after column
-seek_by count parts index end column s part None rest e r m other after held = absurd m
-seek_by count parts index end column s part (Some l) rest e r m other after held =
+seek_by : (parts : List (Option Layout)) (index : ℕ) (end : Option ℕ) (goal : ℕ) (s : IsSeeking parts index end goal) (part : Extent) (l : Option Layout) (rest : List (Option Layout)) → drop index parts ≡ l ∷ rest → rest ≡ drop (index + 1) parts →
+    IsMeasured (Some part) l → index ≢ goal → (after : Option ℕ) → ((n : ℕ) → IsHeld part.size n → IsHeld after (round_up s.at part.align + n)) → IsSeeking parts (index + 1) after goal
+seek_by parts index end goal s part None rest e r m other after held = absurd m
+seek_by parts index end goal s part (Some l) rest e r m other after held =
     let ahead = s.ahead in
-    let gap : column - index ≡ suc (column - (index + 1)) = omega arith in
+    let gap : goal - index ≡ suc (goal - (index + 1)) = omega arith in
     record {
-      at = round_up s.at (align l) + count * size l;
-      held = subst (λ a. IsHeld after (round_up s.at a + count * size l)) m.aligned (held (size l) m.size_held);
+      at = round_up s.at (align l) + size l;
+      held = subst (λ a. IsHeld after (round_up s.at a + size l)) m.aligned (held (size l) m.size_held);
       ahead = omega arith;
-      along = s.along ∙ ap (λ ps. sought count s.at ps (column - index)) e ∙ ap (λ g. sought count s.at (Some l ∷ rest) g) gap ∙ ap (λ ps. sought count (round_up s.at (align l) + count * size l) ps (column - (index + 1))) r;
+      along = s.along ∙ ap (λ ps. sought s.at ps (goal - index)) e ∙ ap (λ g. sought s.at (Some l ∷ rest) g) gap ∙ ap (λ ps. sought (round_up s.at (align l) + size l) ps (goal - (index + 1))) r;
     }
 
 -- a part before the column's
-pub seek_on : (count : ℕ) (parts : List (Option Layout)) (index : ℕ) (end : Option ℕ) (column : ℕ) (s : IsSeeking count parts index end column) (part : Extent) → index < length parts → IsMeasured (Some part) (get_or parts index None) → index ≢ column →
-    (after : Option ℕ) → ((n : ℕ) → IsHeld part.size n → IsHeld after (round_up s.at part.align + count * n)) → IsSeeking count parts (index + 1) after column
-seek_on count parts index end column s part h m other after held =
-    seek_by count parts index end column s part (get_or parts index None) (drop (suc index) parts) (drop-cons parts index None h) (ap (λ i. drop i parts) (sym (add-one index))) m other after held
-
--- the fields of a struct begin where its columns do, each one value wide
-once_begins : (at i : ℕ) (ls : Layouts) → begin_of at (arrays 1 ls) i ≡ begin_of at ls i
-once_begins at i none = refl
-once_begins at zero (more l ls) = refl
-once_begins at (suc i) (more l ls) = once_begins (round_up at (align l) + 1 * size l) i ls ∙ ap (λ n. begin_of (round_up at (align l) + n) ls i) (omega arith)
-
-once_counts : (ls : Layouts) → count_of (arrays 1 ls) ≡ count_of ls
-once_counts none = refl
-once_counts (more l ls) = ap (λ n. suc n) (once_counts ls)
+pub seek_on : (parts : List (Option Layout)) (index : ℕ) (end : Option ℕ) (goal : ℕ) (s : IsSeeking parts index end goal) (part : Extent) → index < length parts → IsMeasured (Some part) (get_or parts index None) → index ≢ goal →
+    (after : Option ℕ) → ((n : ℕ) → IsHeld part.size n → IsHeld after (round_up s.at part.align + n)) → IsSeeking parts (index + 1) after goal
+seek_on parts index end goal s part h m other after held =
+    seek_by parts index end goal s part (get_or parts index None) (drop (suc index) parts) (drop-cons parts index None h) (ap (λ i. drop i parts) (sym (add-one index))) m other after held
 
 -- where a field of a struct begins, once its columns tell it
-pub once_offset : (o : Option Layouts) (result : Option ℕ) (i : ℕ) → ((ls : Layouts) → o ≡ Some ls → i < count_of (arrays 1 ls) → IsHeld result (begin_of 0 (arrays 1 ls) i)) →
+pub struct_offset : (o : Option Layouts) (result : Option ℕ) (i : ℕ) → ((ls : Layouts) → o ≡ Some ls → i < count_of ls → IsHeld result (begin_of 0 ls i)) →
     (l : Layout) → option_map struct o ≡ Some l → i < count_of (fields_in l) → IsHeld result (begin_of 0 (fields_in l) i)
-once_offset None result i told l e h = cc
-once_offset (Some ls) result i told l e h =
+struct_offset None result i told l e h = cc
+struct_offset (Some ls) result i told l e h =
     let is : struct ls ≡ l = cc in
-    subst (λ x. IsHeld result (begin_of 0 (fields_in x) i)) is
-    (subst (λ n. IsHeld result n) (once_begins 0 i ls) (told ls refl (let counts = once_counts ls in let inside = subst (λ x. i < count_of (fields_in x)) (sym is) h in omega arith)))
+    subst (λ x. IsHeld result (begin_of 0 (fields_in x) i)) is (told ls refl (subst (λ x. i < count_of (fields_in x)) (sym is) h))
+
+-- a part without a layout, at an index
+pub part_missing : {A : Type 0} (f : A → Option Layout) (xs : List A) (i : ℕ) (d : A) → i < length xs → f (get_or xs i d) ≡ None → get_or (map f xs) i None ≡ None
+part_missing f xs i d h e = get_or-map f xs i d None h ∙ e
+
+-- a type of which nothing is kept has no layout
+pub kept_missing : (extents : List (Option Extent)) (part : ℕ → Option Layout) → AreKept extents part → (t : ℕ) → None ≡ kept_at extents t → part t ≡ None
+kept_missing extents part k t h = by (part t) (subst (λ o. IsMeasured o (part t)) (sym h) (k.each t))
+  where
+    by : (o : Option Layout) → IsMeasured None o → o ≡ None
+    by None m = refl
+    by (Some l) m = absurd m
+
+pub err_as : {A B : Type 0} (r : Result A B) (P Q : B → Type 0) → ((m : B) → P m → Q m) → IfErr r P → IfErr r Q
+err_as (Ok x) P Q f h = tt
+err_as (Err m) P Q f h = f m h
+
+-- the extent of a column, once its part is kept
+pub column_measured : (count : Option ℕ) (part : ℕ → Option Layout) (t : ℕ) (e w : Extent) → IsMeasured (Some e) (part t) → ((l : Layout) → IsExtent e l → IsMeasured (Some w) (wide count l)) → IsMeasured (Some w) (column part count t)
+column_measured count part t e w m h = by count (part t) refl m h
+  where
+    by : (c : Option ℕ) (o : Option Layout) → part t ≡ o → IsMeasured (Some e) o → ((l : Layout) → IsExtent e l → IsMeasured (Some w) (wide c l)) → IsMeasured (Some w) (column part c t)
+    by c None p m h = absurd m
+    by None (Some l) p m h = subst (λ o. IsMeasured (Some w) o) (sym p) (h l m)
+    by (Some n) (Some l) p m h = subst (λ o. IsMeasured (Some w) (option_map (array n) o)) (sym p) (h l m)
+
+-- a column of a type without a layout
+pub column_missing : (count : Option ℕ) (part : ℕ → Option Layout) (t : ℕ) → part t ≡ None → column part count t ≡ None
+column_missing None part t e = e
+column_missing (Some n) part t e = ap (λ o. option_map (array n) o) e
 
 pub end_above : (at : ℕ) (ls : Layouts) → at ≤ end_of at ls
 end_above at none = omega arith
@@ -337,11 +358,12 @@ begin_below at (suc i) (more l ls) h = begin_below (round_up at (align l) + size
 
 -- a field begins within its struct
 pub begin_within : (l : Layout) (i : ℕ) → i < count_of (fields_in l) → begin_of 0 (fields_in l) i ≤ size l
-begin_within (scalar n) i h = absurd (omega arith)
-begin_within (words n) i h = absurd (omega arith)
+begin_within (scalar n d) i h = absurd (omega arith)
+begin_within (words n d) i h = absurd (omega arith)
 begin_within (array n e) i h = absurd (omega arith)
 begin_within (struct fs) i h = let below = begin_below 0 i fs h in omega arith
 begin_within (union vs) i h = absurd (omega arith)
+begin_within (distinct l) i h = begin_within l i h
 
 -- a field of a type that is smaller than 2 to 64 begins below it
 pub no_offset : (o : Option Layout) (i : ℕ) → IsSome o → unwrap_or (option_map size o) 0 < 2 ^ 64 → i < unwrap_or (option_map (λ l. count_of (fields_in l)) o) 0 →

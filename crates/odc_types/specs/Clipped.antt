@@ -1,7 +1,8 @@
 -- How the code holds what it measures.
 use Rattle.std.specs.Prelude.{◌≡◌, ℕ, List, slice_get, unwrap_or, ◌^◌, ◌<◌, ◌≤◌, Option, Some, None}
 use Rattle.odc_types.specs.declared.extent.Extent.{Extent}
-use Rattle.odc_types.specs.Layout.{Layout, size, align}
+use Rattle.odc_types.specs.Layout.{Layout, size, align, depth}
+use Rattle.odc_types.specs.Heights.{clipped}
 
 -- a size is held where it is below 2 to 64
 abbrev pub IsHeld : Option ℕ → ℕ → Type 0
@@ -13,6 +14,7 @@ pub record IsExtent (e : Extent) (l : Layout) : Type 0 where
   pub size_held : IsHeld e.size (size l)
   pub aligned : e.align ≡ align l
   pub positive : 0 < e.align
+  pub deep : e.depth ≡ clipped (depth l)
 
 -- there is an extent where there is a layout, and it is that of the layout
 abbrev pub IsMeasured : Option Extent → Option Layout → Type 0

@@ -3,7 +3,10 @@ pub mod Nodes
 pub mod Identity
 pub mod Keys
 pub mod Parts
+pub mod Below
+pub mod Heights
 pub mod Layout
+pub mod Limits
 pub mod Clipped
 pub mod Interned
 pub mod Measured

@@ -7,17 +7,20 @@ ghost use Rattle.odc_types.specs.Interned.{IsFresh, IsAt};
 ghost use Rattle.odc_types.specs.Layout.{layout, size as bytes_of, HasSize, size_of, align_of, field_count, offset_of, layout_of, layout_of_node};
 ghost use Rattle.odc_types.specs.Clipped.{IsMeasured};
 ghost use Rattle.odc_types.specs.Holds.{IsMarked, IsHeldBy};
+ghost use Rattle.odc_types.specs.Limits.{within_limits};
 
 use crate::extent::Extent;
 use crate::holds::held;
 use crate::index::{found, put};
+use crate::kept::{Kept, height_of};
 use crate::key::{Key, key_of};
+use crate::limits::{LayoutError, SizeAlign, limited};
 use crate::measure::{field_offset, kept, measured};
-use crate::spread::{settle, trim, wait_if_unknown};
 use crate::ty::{Ty, TyId};
 use indexmap::IndexSet;
 use std::alloc::{AllocError, Global};
 use std::marker::Model;
+use std::mem;
 
 /// The number of the type at an index. There are as many numbers as a `u32` has.
 fn numbered(index: usize) -> Result<TyId, AllocError>
@@ -34,21 +37,19 @@ fn numbered(index: usize) -> Result<TyId, AllocError>
 pub struct TypeTable {
     types: Vec<Ty>,
     keys: IndexSet<Key>,
-    extents: Vec<Option<Extent>>,
-    waiting: Vec<TyId>,
+    kept: Kept,
 }
 
 impl Model for TypeTable {
     ghost use Rattle.std.specs.Prelude.{List};
     ghost use Rattle.odc_types.specs.Nodes.{Node, nodes};
-    ghost use Rattle.odc_types.specs.Interned.{IsInterned};
-    ghost use Rattle.odc_types.specs.Measured.{IsMeasuredTable};
+    ghost use Rattle.odc_types.specs.Measured.{IsTable};
 
     ghost Value = { List Node };
 
     ghost view = { λ t. nodes t.types.items };
 
-    ghost invariant = { λ t. IsInterned t.keys.keys (nodes t.types.items) × IsMeasuredTable (nodes t.types.items) t.extents.items t.waiting.items };
+    ghost invariant = { λ t. IsTable t.keys.keys (nodes t.types.items) t.kept.heights.items t.kept.extents.items t.kept.waiters.items };
 }
 
 impl TypeTable {
@@ -59,8 +60,7 @@ impl TypeTable {
         Ok(TypeTable {
             types: Vec::new(alloc),
             keys: IndexSet::new(alloc),
-            extents: Vec::new(alloc),
-            waiting: Vec::new(alloc),
+            kept: Kept::new(alloc),
         })
     }
 
@@ -100,16 +100,23 @@ impl TypeTable {
         ensures err { OnErr result (self.new ≡ self.old) }
     {
         let id = numbered(self.types.len())?;
-        let extent = measured(self.types.as_slice(), self.extents.as_slice(), &t);
-        wait_if_unknown(&mut self.waiting, id, extent, &t)?;
-        self.extents.push(extent)?;
+        let height = height_of(self.kept.heights.as_slice(), &key);
+        let found = measured(
+            self.types.as_slice(),
+            self.kept.extents.as_slice(),
+            height,
+            id,
+            &t,
+            0,
+        );
+        self.kept.push(id, height, found)?;
         if let Err(refused) = self.types.push(t) {
-            self.extents.pop();
+            self.kept.pop();
             return Err(AllocError::from(refused));
         }
         if let Err(refused) = put(&mut self.keys, key) {
             self.types.pop();
-            self.extents.pop();
+            self.kept.pop();
             return Err(refused);
         }
         Ok(id)
@@ -126,14 +133,13 @@ impl TypeTable {
         ensures layouts { (u : ℕ) → HasSize self.old u → layout_of self.new u ≡ layout_of self.old u }
         ensures err { OnErr result (self.new ≡ self.old) }
     {
-        self.waiting.push(t)?;
-        self.types[t.index as usize] = parts;
-        settle(
-            self.types.as_slice(),
-            self.extents.as_mut_slice(),
-            self.waiting.as_slice(),
-        );
-        trim(&mut self.waiting, self.extents.as_slice());
+        let at = t.index as usize;
+        let before = mem::replace(&mut self.types[at], parts);
+        if let Err(refused) = self.kept.settle(self.types.as_slice(), t) {
+            self.kept.forget();
+            self.types[at] = before;
+            return Err(refused);
+        }
         Ok(())
     }
 
@@ -163,6 +169,14 @@ impl TypeTable {
         &self.types[t.index as usize]
     }
 
+    /// Size and alignment of a type that has a size and is within the limits; or the first of these that holds: it has
+    /// no size, it is too deep, its size overflows 64 bits, it is too large.
+    pub fn layout(&self, t: TyId) -> Result<SizeAlign, LayoutError>
+        ensures { result ≡ within_limits (layout_of self.now t.index) }
+    {
+        limited(kept(self.kept.extents.as_slice(), t))
+    }
+
     /// The size of a type in bytes, if it has one and this is below 2 to 64.
     pub fn checked_size(&self, t: TyId) -> Option<u64>
         ensures some { IfSome result (λ n. HasSize self.now t.index × (size_of self.now t.index ≡ n)) }
@@ -170,7 +184,7 @@ impl TypeTable {
         // However deep the type is unfolded.
         ensures none_deeper { IfNone result ((k : ℕ) (l : _) → layout self.now k t.index ≡ Some l → 2 ^ 64 ≤ bytes_of l) }
     {
-        match kept(self.extents.as_slice(), t) {
+        match kept(self.kept.extents.as_slice(), t) {
             Some(extent) => extent.size,
             None => None,
         }
@@ -206,7 +220,7 @@ impl TypeTable {
     {
         match field_offset(
             self.types.as_slice(),
-            self.extents.as_slice(),
+            self.kept.extents.as_slice(),
             t,
             field as usize,
         ) {
@@ -240,7 +254,7 @@ impl TypeTable {
         requires { HasSize self.now t.index }
         ensures { IsMeasured (Some result) (layout_of self.now t.index) }
     {
-        match kept(self.extents.as_slice(), t) {
+        match kept(self.kept.extents.as_slice(), t) {
             Some(extent) => extent,
             None => unreachable!(),
         }

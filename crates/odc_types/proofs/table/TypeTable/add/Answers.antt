@@ -12,7 +12,7 @@ use Rattle.odc_types.proofs.table.TypeTable.add.Goals as goal
 pub returns-in-Some-clause-identity : goal.returns-in-Some-clause-identity
 returns-in-Some-clause-identity c =
     let keys = c.self.inside.keys.keys in
-    let table : IsInterned keys c.args.self.now = subst (IsInterned keys) c.self.view_is c.self.invariant.0 in
+    let table : IsInterned keys c.args.self.now = subst (IsInterned keys) c.self.view_is c.self.invariant.interned in
     let at : IsAt c.args.self.now c.in-Some.index (node c.args.t) = c.in-Some.ensures.some (node c.args.t) c.in_ok-key.ensures in
     ok_at c.numbered.result c.in-Some.index (λ i. identity_of c.args.self.now i ≡ identity_of_node (identity_of c.args.self.now) (node c.args.t)) c.numbered.ensures
     (at_has_identity keys c.args.self.now table c.in-Some.index (node c.args.t) at)
@@ -31,7 +31,7 @@ returns-in-Some-clause-added c =
 pub returns-in-Some-clause-known : goal.returns-in-Some-clause-known
 returns-in-Some-clause-known c =
     let keys = c.self.inside.keys.keys in
-    let table : IsInterned keys c.args.self.now = subst (IsInterned keys) c.self.view_is c.self.invariant.0 in
+    let table : IsInterned keys c.args.self.now = subst (IsInterned keys) c.self.view_is c.self.invariant.interned in
     let at : IsAt c.args.self.now c.in-Some.index (node c.args.t) = c.in-Some.ensures.some (node c.args.t) c.in_ok-key.ensures in
     ok_at c.numbered.result c.in-Some.index (λ i. (u : ℕ) → u < length c.args.self.now → identity_of c.args.self.now u ≡ identity_of_node (identity_of c.args.self.now) (node c.args.t) → (i ≡ u) × (c.args.self.now ≡ c.args.self.now)) c.numbered.ensures
     (λ u h e. (one_id keys c.args.self.now table (identity_of_node (identity_of c.args.self.now) (node c.args.t)) c.in-Some.index u (slice_get_within c.args.self.now c.in-Some.index at.node at.at) h (at_has_identity keys c.args.self.now table c.in-Some.index (node c.args.t) at) e, refl))
@@ -39,7 +39,7 @@ returns-in-Some-clause-known c =
 pub returns-in-None-clause-identity : goal.returns-in-None-clause-identity
 returns-in-None-clause-identity c =
     let keys = c.self.inside.keys.keys in
-    let table : IsInterned keys c.args.self.now = subst (IsInterned keys) c.self.view_is c.self.invariant.0 in
+    let table : IsInterned keys c.args.self.now = subst (IsInterned keys) c.self.view_is c.self.invariant.interned in
     let fresh : IsFresh c.args.self.now (node c.args.t) = c.in-None.ensures.none (node c.args.t) c.in_ok-key.ensures in
     ok_added c.append.result c.append.new.self (c.args.self.now ++ (node c.args.t ∷ [])) c.append.ensures.ok (length c.args.self.now) c.append.ensures.number
     (λ i ns. identity_of ns i ≡ identity_of_node (identity_of c.args.self.now) (node c.args.t))
@@ -48,7 +48,7 @@ returns-in-None-clause-identity c =
 pub returns-in-None-clause-known : goal.returns-in-None-clause-known
 returns-in-None-clause-known c =
     let keys = c.self.inside.keys.keys in
-    let table : IsInterned keys c.args.self.now = subst (IsInterned keys) c.self.view_is c.self.invariant.0 in
+    let table : IsInterned keys c.args.self.now = subst (IsInterned keys) c.self.view_is c.self.invariant.interned in
     let fresh : IsFresh c.args.self.now (node c.args.t) = c.in-None.ensures.none (node c.args.t) c.in_ok-key.ensures in
     ok_added c.append.result c.append.new.self (c.args.self.now ++ (node c.args.t ∷ [])) c.append.ensures.ok (length c.args.self.now) c.append.ensures.number
     (λ i ns. (u : ℕ) → u < length c.args.self.now → identity_of c.args.self.now u ≡ identity_of_node (identity_of c.args.self.now) (node c.args.t) → (i ≡ u) × (ns ≡ c.args.self.now))
@@ -57,7 +57,7 @@ returns-in-None-clause-known c =
 pub returns-in-None-clause-identities : goal.returns-in-None-clause-identities
 returns-in-None-clause-identities c =
     let keys = c.self.inside.keys.keys in
-    let table : IsInterned keys c.args.self.now = subst (IsInterned keys) c.self.view_is c.self.invariant.0 in
+    let table : IsInterned keys c.args.self.now = subst (IsInterned keys) c.self.view_is c.self.invariant.interned in
     either_way c.append.result c.append.new.self (c.args.self.now ++ (node c.args.t ∷ [])) c.args.self.now c.append.ensures.ok c.append.ensures.err
     (λ ns. (u : ℕ) → u < length c.args.self.now → identity_of ns u ≡ identity_of c.args.self.now u)
     (λ u h. identity_added c.args.self.now (node c.args.t) table.whole u h) (λ u h. refl)
@@ -66,4 +66,4 @@ pub returns-in-None-clause-layouts : goal.returns-in-None-clause-layouts
 returns-in-None-clause-layouts c =
     either_way c.append.result c.append.new.self (c.args.self.now ++ (node c.args.t ∷ [])) c.args.self.now c.append.ensures.ok c.append.ensures.err
     (λ ns. (u : ℕ) → HasSize c.args.self.now u → layout_of ns u ≡ layout_of c.args.self.now u)
-    (λ u h. keeps_layout c.args.self.now (c.args.self.now ++ (node c.args.t ∷ [])) (grows_at_end c.args.self.now (node c.args.t ∷ [])) u h) (λ u h. refl)
+    (λ u h. keeps_layout c.args.self.now (c.args.self.now ++ (node c.args.t ∷ [])) (grows_at_end c.self.inside.keys.keys c.args.self.now (node c.args.t) (subst (IsInterned c.self.inside.keys.keys) c.self.view_is c.self.invariant.interned)) u h) (λ u h. refl)

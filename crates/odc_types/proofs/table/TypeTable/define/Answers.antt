@@ -1,20 +1,80 @@
-use Rattle.std.proofs.Common.{ap, ◌∙◌, ◌≡◌, slice_set, subst, sym, length, ◌++◌, ◌∷◌, [], refl, take, drop}
-use Rattle.std.proofs.lemmas.List.{map-set}
-use Rattle.odc_types.specs.Nodes.{node, nodes}
+use Rattle.std.proofs.Common.{ℕ, [], ◌≡◌, ◌<◌, ap, sym, ◌∙◌, subst, refl, arith, length, slice_get, slice_set, get_or, List}
+use Rattle.std.proofs.lemmas.List.{map-set, length-map, length-set}
+use Rattle.odc_types.specs.declared.ty.Ty.{Ty}
+use Rattle.odc_types.specs.Nodes.{Node, node, nodes}
 use Rattle.odc_types.specs.Identity.{identity_of}
-use Rattle.odc_types.specs.Clipped.{kept_at}
-use Rattle.odc_types.specs.Interned.{IsInterned}
-use Rattle.odc_types.specs.Measured.{IsMeasuredTable, IsSound, IsStuck, Waits}
+use Rattle.odc_types.specs.Layout.{layout_of}
+use Rattle.odc_types.specs.Parts.{HasPartsBelow, IsUndefined}
+use Rattle.odc_types.specs.Measured.{IsTable, IsFounded, IsSound, IsSpreading, AreLonger, waiters_at}
 use Rattle.odc_types.proofs.IdentityLaws.{identity_defined}
-use Rattle.odc_types.proofs.InternedLaws.{interned_defined}
 use Rattle.odc_types.proofs.LayoutLaws.{Grows, keeps_layout, grows_by_parts}
-use Rattle.odc_types.proofs.MeasuredLaws.{carried, measured_defined, sound_grows, written_whole}
+use Rattle.odc_types.proofs.TableLaws.{define_founded, define_sound, undefined_unkept, table_defined, table_kept, undefined_within, set_back}
 use Rattle.odc_types.proofs.table.TypeTable.define.Goals as goal
 
+changed : (items : List Ty) (t : ℕ) (x y : Ty) (now : List Node) → x ≡ y → nodes items ≡ now → nodes (slice_set items t x) ≡ slice_set now t (node y)
+changed items t x y now e same = map-set node items t x ∙ ap (λ l. slice_set l t (node x)) same ∙ ap (λ n. slice_set now t (node n)) e
+
+put_back : (items : List Ty) (t : ℕ) (x y : Ty) (now : List Node) → x ≡ get_or items t x → nodes items ≡ now → nodes (slice_set (slice_set items t y) t x) ≡ now
+put_back items t x y now e same = ap nodes (set_back items t x y e) ∙ same
+
+was_there : (items : List Ty) (t : ℕ) (x y : Ty) → x ≡ y → y ≡ get_or items t y → x ≡ get_or items t x
+was_there items t x y e at = e ∙ at ∙ ap (λ z. get_or items t z) (sym e)
+
+pub index_mut-requires-in-Err : goal.index_mut-requires-in-Err
+index_mut-requires-in-Err c =
+    let inside = undefined_within c.args.self.now c.args.t.index (node c.args.parts) c.requires.undefined in
+    let count = ap (λ ns. length ns) (sym c.self.view_is) ∙ length-map c.self.inside.types.items node in
+    omega (arith, c.self.inside.types.ok)
+
+pub settle-requires-clause-founded : goal.settle-requires-clause-founded
+settle-requires-clause-founded c =
+    let kept = c.self.inside.kept in
+    let t = subst (λ ns. IsTable c.self.inside.keys.keys ns kept.heights.items kept.extents.items kept.waiters.items) c.self.view_is c.self.invariant in
+    let seen = ap nodes c.as_slice.ensures.value ∙ changed c.self.inside.types.items c.args.t.index c.replace-before.new.dest c.args.parts c.args.self.now c.replace-before.ensures.after c.self.view_is in
+    subst (λ ns. IsFounded ns kept.heights.items) (sym seen) (define_founded c.self.inside.keys.keys c.args.self.now kept.heights.items kept.extents.items kept.waiters.items c.args.t.index (node c.args.parts) t c.requires.below c.requires.undefined)
+
+pub settle-requires-clause-sound : goal.settle-requires-clause-sound
+settle-requires-clause-sound c =
+    let kept = c.self.inside.kept in
+    let t = subst (λ ns. IsTable c.self.inside.keys.keys ns kept.heights.items kept.extents.items kept.waiters.items) c.self.view_is c.self.invariant in
+    let seen = ap nodes c.as_slice.ensures.value ∙ changed c.self.inside.types.items c.args.t.index c.replace-before.new.dest c.args.parts c.args.self.now c.replace-before.ensures.after c.self.view_is in
+    subst (λ ns. IsSound ns kept.extents.items) (sym seen) (define_sound c.self.inside.keys.keys c.args.self.now kept.heights.items kept.extents.items kept.waiters.items c.args.t.index (node c.args.parts) t c.requires.undefined)
+
+pub settle-requires-clause-none : goal.settle-requires-clause-none
+settle-requires-clause-none c =
+    let kept = c.self.inside.kept in
+    let t = subst (λ ns. IsTable c.self.inside.keys.keys ns kept.heights.items kept.extents.items kept.waiters.items) c.self.view_is c.self.invariant in
+    undefined_unkept c.args.self.now kept.extents.items kept.waiters.items c.args.t.index (node c.args.parts) t.measured c.requires.undefined
+
+pub invariant_of-self-in_default : goal.invariant_of-self-in_default
+invariant_of-self-in_default c =
+    let keys = c.self.inside.keys.keys in
+    let kept = c.self.inside.kept in
+    let new = c.settle.new.self in
+    let t = subst (λ ns. IsTable keys ns kept.heights.items kept.extents.items kept.waiters.items) c.self.view_is c.self.invariant in
+    let whole = changed c.self.inside.types.items c.args.t.index c.replace-before.new.dest c.args.parts c.args.self.now c.replace-before.ensures.after c.self.view_is in
+    let seen = ap nodes c.as_slice.ensures.value ∙ whole in
+    let goes = subst (λ ns. IsSpreading ns kept.extents.items kept.extents.items kept.waiters.items [] 0 c.args.t.index 0 (length (waiters_at kept.waiters.items c.args.t.index)) → IsSpreading ns kept.extents.items new.extents.items new.waiters.items new.fresh.items (length new.fresh.items) 0 0 0) seen c.in_default.ensures.ok in
+    subst (λ ns. IsTable keys ns new.heights.items new.extents.items new.waiters.items) (sym whole)
+    (table_defined keys c.args.self.now kept.heights.items new.heights.items kept.extents.items new.extents.items kept.waiters.items new.waiters.items new.fresh.items c.args.t.index (node c.args.parts) t c.requires.below c.requires.undefined (ap (λ v. v.items) c.settle.ensures.heights) c.settle.ensures.len goes)
+
+pub invariant_of-self : goal.invariant_of-self
+invariant_of-self c =
+    let keys = c.self.inside.keys.keys in
+    let kept = c.self.inside.kept in
+    let new = c.forget.new.self in
+    let back = put_back c.self.inside.types.items c.args.t.index c.replace-before.result c.replace-before.new.dest (nodes c.self.inside.types.items)
+    (was_there c.self.inside.types.items c.args.t.index c.replace-before.result c.index_mut.result.now c.replace-before.ensures.value c.index_mut.ensures.value) refl in
+    subst (λ ns. IsTable keys ns new.heights.items new.extents.items new.waiters.items) (sym back)
+    (table_kept keys (nodes c.self.inside.types.items) kept.heights.items new.heights.items kept.extents.items new.extents.items kept.waiters.items new.waiters.items c.self.invariant
+    (ap (λ v. v.items) (c.forget.ensures.heights ∙ c.settle.ensures.heights))
+    (c.forget.ensures.same ∙ c.settle.ensures.told.same)
+    (ap (λ v. length v.items) c.forget.ensures.waiters ∙ c.settle.ensures.len)
+    (c.forget.ensures.kept kept.extents.items c.settle.ensures.told)
+    (subst (λ ws. AreLonger kept.waiters.items ws) (sym (ap (λ v. v.items) c.forget.ensures.waiters)) c.settle.ensures.longer))
+
 pub returns-clause-ok : goal.returns-clause-ok
-returns-clause-ok c =
-    map-set node c.self.inside.types.items c.args.t.index c.args.parts
-    ∙ ap (λ l. slice_set l c.args.t.index (node c.args.parts)) c.self.view_is
+returns-clause-ok c = changed c.self.inside.types.items c.args.t.index c.replace-before.new.dest c.args.parts c.args.self.now c.replace-before.ensures.after c.self.view_is
 
 pub returns-clause-layouts : goal.returns-clause-layouts
 returns-clause-layouts c = λ u sized.
@@ -24,38 +84,13 @@ pub returns-clause-identities : goal.returns-clause-identities
 returns-clause-identities c = λ u inside.
     ap (λ ns. identity_of ns u) (returns-clause-ok c) ∙ identity_defined c.args.self.now c.args.t.index (node c.args.parts) c.requires.undefined u
 
-pub settle-requires-clause-sound : goal.settle-requires-clause-sound
-settle-requires-clause-sound c =
-    let again = node c.args.parts in
-    let index = c.args.t.index in
-    let types = slice_set c.args.self.now index again in
-    let extents = c.self.inside.extents.items in
-    let whole = map-set node c.self.inside.types.items index c.args.parts ∙ ap (λ l. slice_set l index again) c.self.view_is in
-    let seen : nodes c.as_slice.result.now ≡ types = ap nodes c.as_slice.ensures.value ∙ whole in
-    let table : IsMeasuredTable c.args.self.now extents c.self.inside.waiting.items = subst (λ ns. IsMeasuredTable ns extents c.self.inside.waiting.items) c.self.view_is c.self.invariant.1 in
-    subst (λ ns. IsSound ns c.as_mut_slice.result.now) (sym seen)
-    (subst (λ es. IsSound types es) (sym c.as_mut_slice.ensures.value) (sound_grows c.args.self.now types extents (grows_by_parts c.args.self.now index again c.requires.undefined) table.kept))
+pub returns-in-Err-clause-err : goal.returns-in-Err-clause-err
+returns-in-Err-clause-err c =
+    put_back c.self.inside.types.items c.args.t.index c.replace-before.result c.replace-before.new.dest c.args.self.now
+    (was_there c.self.inside.types.items c.args.t.index c.replace-before.result c.index_mut.result.now c.replace-before.ensures.value c.index_mut.ensures.value) c.self.view_is
 
-pub invariant_of-self-2 : goal.invariant_of-self-2
-invariant_of-self-2 c =
-    let again = node c.args.parts in
-    let index = c.args.t.index in
-    let keys = c.self.inside.keys.keys in
-    let types = slice_set c.args.self.now index again in
-    let extents = c.self.inside.extents.items in
-    let waiting = c.self.inside.waiting.items in
-    let new = c.settle.new.extents in
-    let whole = map-set node c.self.inside.types.items index c.args.parts ∙ ap (λ l. slice_set l index again) c.self.view_is in
-    let seen : nodes c.as_slice.result.now ≡ types = ap nodes c.as_slice.ensures.value ∙ whole in
-    let written = written_whole extents new c.self.inside.extents.len (c.settle.ensures.len ∙ c.as_mut_slice.ensures.len) in
-    let listed : c.push.new.self.items ≡ waiting ++ (c.args.t ∷ []) = c.in_ok-push.ensures.items in
-    let interned : IsInterned keys c.args.self.now = subst (IsInterned keys) c.self.view_is c.self.invariant.0 in
-    let table : IsMeasuredTable c.args.self.now extents waiting = subst (λ ns. IsMeasuredTable ns extents waiting) c.self.view_is c.self.invariant.1 in
-    carried keys keys types (nodes (slice_set c.self.inside.types.items index c.args.parts)) new (take c.self.inside.extents.len (new ++ drop (length new) extents)) c.trim.new.waiting.items refl whole written
-    (interned_defined keys c.args.self.now index again interned c.requires.below c.requires.undefined)
-    (measured_defined c.args.self.now extents new waiting c.trim.new.waiting.items c.args.t again table c.requires.undefined
-    (c.settle.ensures.len ∙ ap (λ es. length es) c.as_mut_slice.ensures.value)
-    (subst (λ ns. IsSound ns new) seen c.settle.ensures.sound)
-    (λ u none. ap (λ es. kept_at es u) (sym c.as_mut_slice.ensures.value) ∙ c.settle.ensures.keeps u none)
-    (λ u w none. subst (λ ns. IsStuck ns new u) seen (c.settle.ensures.stuck u (subst (λ ws. Waits ws u) (sym (c.as_slice-2.ensures.value ∙ listed)) w) none))
-    (λ u w none. c.trim.ensures u (subst (λ ws. Waits ws u) (sym listed) w) (ap (λ es. kept_at es u) (c.as_slice-3.ensures.value ∙ written) ∙ none)))
+pub returns-in-Err-clause-identities : goal.returns-in-Err-clause-identities
+returns-in-Err-clause-identities c = λ u inside. ap (λ ns. identity_of ns u) (returns-in-Err-clause-err c)
+
+pub returns-in-Err-clause-layouts : goal.returns-in-Err-clause-layouts
+returns-in-Err-clause-layouts c = λ u sized. ap (λ ns. layout_of ns u) (returns-in-Err-clause-err c)

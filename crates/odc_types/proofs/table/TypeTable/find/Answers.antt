@@ -9,7 +9,7 @@ use Rattle.odc_types.proofs.table.TypeTable.find.Goals as goal
 pub returns-clause-some : goal.returns-clause-some
 returns-clause-some c =
     let keys = c.self.inside.keys.keys in
-    let table : IsInterned keys c.args.self.now = subst (IsInterned keys) c.self.view_is c.self.invariant.0 in
+    let table : IsInterned keys c.args.self.now = subst (IsInterned keys) c.self.view_is c.self.invariant.interned in
     by c.found.result c.found.ensures.some table
   where
     by : (r : Option ℕ) → IfSome r (λ i. (k : Key) × (slice_get c.self.inside.keys.keys i ≡ Some k) × IsSameKey k c.args.key.now) → IsInterned c.self.inside.keys.keys c.args.self.now → IfSome r (λ i. (n : Node) → IsKeyOf c.args.key.now n → IsAt c.args.self.now i n)
@@ -19,7 +19,7 @@ returns-clause-some c =
 pub returns-clause-none : goal.returns-clause-none
 returns-clause-none c =
     let keys = c.self.inside.keys.keys in
-    let table : IsInterned keys c.args.self.now = subst (IsInterned keys) c.self.view_is c.self.invariant.0 in
+    let table : IsInterned keys c.args.self.now = subst (IsInterned keys) c.self.view_is c.self.invariant.interned in
     by c.found.result c.found.ensures.none table
   where
     by : (r : Option ℕ) → IfNone r ((i : ℕ) (k : Key) → slice_get c.self.inside.keys.keys i ≡ Some k → IsSameKey k c.args.key.now → ⊥) → IsInterned c.self.inside.keys.keys c.args.self.now → IfNone r ((n : Node) → IsKeyOf c.args.key.now n → IsFresh c.args.self.now n)

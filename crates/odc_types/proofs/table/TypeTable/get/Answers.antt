@@ -12,12 +12,12 @@ at c =
 
 pub returns-clause-parts : goal.returns-clause-parts
 returns-clause-parts c =
-    let table : IsInterned c.self.inside.keys.keys c.args.self.now = subst (IsInterned c.self.inside.keys.keys) c.self.view_is c.self.invariant.0 in
+    let table : IsInterned c.self.inside.keys.keys c.args.self.now = subst (IsInterned c.self.inside.keys.keys) c.self.view_is c.self.invariant.interned in
     table.parts c.args.t.index (node c.index.result.now) (at c)
 
 pub returns-clause-identity : goal.returns-clause-identity
 returns-clause-identity c =
-    let table : IsInterned c.self.inside.keys.keys c.args.self.now = subst (IsInterned c.self.inside.keys.keys) c.self.view_is c.self.invariant.0 in
+    let table : IsInterned c.self.inside.keys.keys c.args.self.now = subst (IsInterned c.self.inside.keys.keys) c.self.view_is c.self.invariant.interned in
     unfolds c.args.self.now table.whole c.args.t.index (node c.index.result.now) (at c)
 
 pub returns-clause-layout : goal.returns-clause-layout
