@@ -5,6 +5,7 @@
 #![tactic(auto)]
 
 pub mod copy_expr;
+pub mod copy_stmt;
 pub mod discard;
 pub mod list;
 pub mod node;
