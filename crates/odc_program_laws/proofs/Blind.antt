@@ -2,11 +2,10 @@
 use Rattle.std.proofs.Common.{◌≡◌, ℕ, zero, suc, Bool, true, false, List, ◌++◌, ap, sym, ◌∙◌, refl, subst}
 use Rattle.std.specs.Prelude.{Option, Some, None, ◌+◌, take, drop, min, length, if◌then◌else◌, nat_le}
 use Rattle.odc_text.specs.declared.place.Place.{Place}
-use Rattle.odc_text.specs.Run.{End, exited, checked, strayed, trapped, going}
+use Rattle.odc_text.specs.Run.{End, exited, going}
 use Rattle.odc_program.specs.States.Run.{Res, ok, stop, pure, then_by}
 use Rattle.odc_program.specs.States.Bytes.{Block, to, Value}
 use Rattle.odc_program.specs.States.Memory.{Memory, load, store, fits, writable, open_block, close, close_from}
-use Rattle.odc_program.specs.Trees.Tree as tree
 use Rattle.odc_program.specs.Trees.Program as t
 use Rattle.odc_program.specs.States.State as p
 use Rattle.odc_program.specs.Runs.Statements as f
@@ -16,7 +15,6 @@ use Rattle.odc_program_laws.specs.Rewriting.{ButCost}
 use Rattle.odc_program_laws.specs.Laws.{SameButCost}
 use Rattle.odc_program_laws.proofs.Alike as a
 use Rattle.odc_program_laws.proofs.StatementsAlike as b
-use Rattle.odc_program_laws.proofs.Whole as u
 use Rattle.odc_program_laws.proofs.Rewritten as w
 
 abbrev pub Stops : p.Leave → p.State → a.Tail → Type 0

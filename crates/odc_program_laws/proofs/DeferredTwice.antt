@@ -1,20 +1,18 @@
 -- A deferred statement that is itself a `defer` does what that one does.
-use Rattle.std.proofs.Common.{◌≡◌, ℕ, refl}
-use Rattle.std.specs.Prelude.{Option, Some, None, ◌+◌}
+use Rattle.std.proofs.Common.{ℕ}
+use Rattle.std.specs.Prelude.{Some, ◌+◌}
 use Rattle.odc_text.specs.declared.place.Place.{Place}
 use Rattle.odc_program.specs.Trees.Tree as t
 use Rattle.odc_program.specs.States.State as p
 use Rattle.odc_program.specs.Kinds.Expressions as e
-use Rattle.odc_program.specs.Runs.Statements as f
 use Rattle.odc_program.specs.Runs.Source as s
 use Rattle.odc_program_laws.specs.Rewriting as d
 use Rattle.odc_program_laws.specs.Rewriting.{ButCost}
 use Rattle.odc_program_laws.specs.Laws.{deferred_once, once, once_in}
 use Rattle.odc_program_laws.proofs.Alike as a
-use Rattle.odc_program_laws.proofs.StatementsAlike as b
 use Rattle.odc_program_laws.proofs.Whole as u
 use Rattle.odc_program_laws.proofs.Rewritten as w
-use Rattle.odc_program_laws.proofs.Blind.{Stops, Same, blind, chains, flips, liked, calls_alike, same_fuel}
+use Rattle.odc_program_laws.proofs.Blind.{Stops, Same, blind, liked, calls_alike, same_fuel}
 
 module _ (n : ℕ) (calls : p.Calls) (g : d.BlindCalls calls) (env : p.Env) where
   kind_itself : (i : t.Expr) → Same (e.base_of calls env i) (e.base_of calls env i)

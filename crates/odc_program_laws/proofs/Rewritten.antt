@@ -1,20 +1,17 @@
 -- A program that is rewritten by a rule: where a relation on runs takes what the rule makes of a node in the place of the
 -- node, it is kept by the whole run.
-use Rattle.std.proofs.Common.{◌≡◌, ℕ, zero, suc, Bool, true, false, List, [], ◌∷◌, refl, subst, sym, ap}
-use Rattle.std.specs.Prelude.{Option, Some, None, ◌+◌, ◌-◌, if◌then◌else◌, slice_get}
+use Rattle.std.proofs.Common.{◌≡◌, ℕ, zero, suc, true, false, List, [], ◌∷◌, refl, subst, sym, ap}
+use Rattle.std.specs.Prelude.{Option, Some, None, ◌-◌, slice_get}
 use Rattle.odc_text.specs.declared.place.Place.{Place}
-use Rattle.odc_text.specs.declared.check.Check.{Check}
 use Rattle.odc_text.specs.declared.check.Check.TheVariants as check
 use Rattle.odc_text.specs.Run.{going}
 use Rattle.odc_program.specs.declared.ops.Builtin.{Builtin}
-use Rattle.odc_program.specs.declared.ops.Builtin.TheVariants as bi
 use Rattle.odc_program.specs.States.Run.{pure, ◌>>=◌}
-use Rattle.odc_program.specs.States.Bytes.{Value, zeros}
+use Rattle.odc_program.specs.States.Bytes.{Value}
 use Rattle.odc_program.specs.Trees.Tree as t
 use Rattle.odc_program.specs.Trees.Program as q
 use Rattle.odc_program.specs.States.State as s
 use Rattle.odc_program.specs.Kinds.Places as p
-use Rattle.odc_program.specs.Kinds.Calling as c
 use Rattle.odc_program.specs.Kinds.Expressions as e
 use Rattle.odc_program.specs.Runs.Statements as f
 use Rattle.odc_program.specs.Runs.Source as x
@@ -23,8 +20,6 @@ use Rattle.odc_program_laws.proofs.Alike as a
 use Rattle.odc_program_laws.proofs.PlacesAlike as pl
 use Rattle.odc_program_laws.proofs.OperatorsAlike as ol
 use Rattle.odc_program_laws.proofs.CallsAlike as cl
-use Rattle.odc_program_laws.proofs.BuiltinsAlike as bl
-use Rattle.odc_program_laws.proofs.AllocatingAlike as al
 use Rattle.odc_program_laws.proofs.StatementsAlike as b
 use Rattle.odc_program_laws.proofs.Whole as u
 

@@ -1,5 +1,5 @@
 -- A whole run keeps what the primitives keep.
-use Rattle.std.proofs.Common.{◌≡◌, ℕ, zero, suc, Bool, true, false, List, [], ◌∷◌, ◌⊎◌, inl, inr, refl}
+use Rattle.std.proofs.Common.{ℕ, zero, suc, Bool, true, false, List, [], ◌∷◌, inl, inr, refl}
 use Rattle.std.specs.Prelude.{Option, Some, None, ◌+◌, ◌-◌, if◌then◌else◌, slice_get}
 use Rattle.odc_text.specs.declared.place.Place.{Place}
 use Rattle.odc_text.specs.declared.check.Check.{Check}
@@ -13,7 +13,6 @@ use Rattle.odc_program.specs.Trees.Tree as t
 use Rattle.odc_program.specs.Trees.Program as q
 use Rattle.odc_program.specs.States.State as s
 use Rattle.odc_program.specs.Kinds.Places as p
-use Rattle.odc_program.specs.Kinds.Calling as c
 use Rattle.odc_program.specs.Kinds.Expressions as e
 use Rattle.odc_program.specs.Runs.Statements as f
 use Rattle.odc_program.specs.Runs.Source as x

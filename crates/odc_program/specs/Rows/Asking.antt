@@ -1,10 +1,10 @@
 -- Small programs: what allocators are asked and answer, regions, and memory that is raw.
-use Rattle.std.specs.Prelude.{ℕ, pos, true, List, [], ◌∷◌, Some, None, replicate}
+use Rattle.std.specs.Prelude.{ℕ, pos, true, [], ◌∷◌, Some, None, replicate}
 use Rattle.odc_program.specs.declared.ops.Builtin.TheVariants as b
 use Rattle.odc_program.specs.States.Bytes.{numbers}
 use Rattle.odc_program.specs.Trees.Tree as t
 use Rattle.odc_program.specs.Trees.Program.{Global, Program}
-use Rattle.odc_program.specs.Rows.Writing.{taken, Answered, Location, BytePointer, PointerError, FileAnswer, Int, IntPointer, IntArray, Byte_, ByteSlice_, Buffer, Error, Raw, AllocatorProc, num, of_type, nil_of, loc, glob, node, args, calls, elem, st, show, let_, set, do_, at_place, Proc, proc, main, with_all, three, buffer, glob_of, address_of, allocator_of, allocator_locals, short_of}
+use Rattle.odc_program.specs.Rows.Writing.{taken, Answered, Location, BytePointer, PointerError, FileAnswer, Int, IntPointer, IntArray, Byte_, ByteSlice_, Buffer, Error, Raw, AllocatorProc, num, of_type, nil_of, loc, glob, node, args, calls, elem, st, show, let_, set, do_, at_place, Proc, main, with_all, three, buffer, glob_of, address_of, allocator_of, short_of}
 use Rattle.odc_program.specs.Rows.Third.{array_over, kept, to_a, element, len, cap}
 
 -- memory that isn't zero

@@ -1,10 +1,10 @@
 -- Small programs: containers in columns that are dynamic or cut.
-use Rattle.std.specs.Prelude.{ℕ, ◌++◌, pos, [], ◌∷◌, Some, None}
+use Rattle.std.specs.Prelude.{ℕ, ◌++◌, pos, [], ◌∷◌, None}
 use Rattle.odc_program.specs.declared.ops.Builtin.TheVariants as b
 use Rattle.odc_program.specs.States.Bytes.{numbers, zeros}
 use Rattle.odc_program.specs.Trees.Tree as t
 use Rattle.odc_program.specs.Trees.Program.{Global, Program}
-use Rattle.odc_program.specs.Rows.Writing.{Int, IntPointer, Byte_, Buffer, I64, Rec, SoaArray, SoaSlice, IntSlice, Nothing, num, loc, glob, node, calls, field, elem, rec_of, st, show, let_, set, do_, at_place, main, with_all, glob_of, address_of}
+use Rattle.odc_program.specs.Rows.Writing.{Int, IntPointer, Byte_, Buffer, I64, Rec, SoaArray, SoaSlice, IntSlice, Nothing, num, loc, glob, node, calls, field, elem, rec_of, show, let_, set, do_, at_place, main, with_all, glob_of, address_of}
 use Rattle.odc_program.specs.Rows.Third.{longs, d, to_d, b_of, a_of, soa_len}
 
 -- ---- three records over a global: 1, 2, 3 in the first column and 10, 20, 30 in the second

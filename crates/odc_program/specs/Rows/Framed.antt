@@ -1,5 +1,5 @@
 -- Small programs and the frames of their procedures.
-use Rattle.std.specs.Prelude.{ℕ, List, [], ◌∷◌, None, slice_get, Option, Some}
+use Rattle.std.specs.Prelude.{ℕ, List, [], ◌∷◌, None}
 use Rattle.odc_program.specs.Trees.Program.{Head, Body, Program}
 use Rattle.odc_program.specs.Runs.Source.{env_of}
 use Rattle.odc_program.specs.Typing.Frames.{nodes_of, frame_of}

@@ -8,7 +8,7 @@ use Rattle.odc_program.specs.Trees.Program.{Part, Program, Ty, Head, whole, addr
 use Rattle.odc_program.specs.States.Bytes.{literal, to, pointer_bytes, int_bytes}
 use Rattle.odc_program.specs.Rows.Third.{contextless}
 use Rattle.odc_program.specs.Rows.Second.{with_helper, helper, call_help}
-use Rattle.odc_program.specs.Rows.Writing.{Contextless, ContextType, SoaThree, RecPointer, IntBool, nil_of, named, glob_of, lit, with_name, entry, field_at, IntPointer, IntProc, Three, Either, address_of, refuser, with_all, Subtracting, args, Error, Int, Text, Byte_, Nothing, Plain, Teller, num, of_type, bool, str, loc, elem, call, do_, give, let_, set, show, at_place, proc, main, program, saying, Bool_, Rune, U64, IntSlice, Rec, Location, types, at, node, calls, bin, st, block_of, zero, one, words}
+use Rattle.odc_program.specs.Rows.Writing.{Contextless, ContextType, SoaThree, RecPointer, IntBool, nil_of, named, glob_of, lit, with_name, entry, field_at, IntPointer, IntProc, Three, Either, address_of, refuser, with_all, Subtracting, args, Error, Int, Text, Byte_, Nothing, Plain, Teller, num, of_type, bool, str, loc, elem, call, do_, give, let_, set, show, at_place, proc, main, program, saying, Bool_, Rune, IntSlice, Rec, Location, types, at, node, calls, bin, st, block_of, zero, one, words}
 
 -- two variables with no eight bytes between them
 abbrev pub too_near : Program

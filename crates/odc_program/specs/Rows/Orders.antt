@@ -1,10 +1,10 @@
 -- Small programs: the order in which parts are evaluated, and how often.
-use Rattle.std.specs.Prelude.{ℕ, pos, false, true, [], ◌∷◌, Some, None}
+use Rattle.std.specs.Prelude.{false, [], ◌∷◌, Some, None}
 use Rattle.odc_program.specs.declared.ops.BinaryOp.TheVariants as op
 use Rattle.odc_program.specs.States.Bytes.{zeros}
 use Rattle.odc_program.specs.Trees.Tree as t
 use Rattle.odc_program.specs.Trees.Program.{Program}
-use Rattle.odc_program.specs.Rows.Writing.{taken, taken_as, Bool_, Either, IntBool, Teller, Three, ToIntProc, IntProc, Int, num, loc, glob, node, args, bin, elem, st, block_of, show, let_, zero, set, call, do_, give, at_place, proc, main, program, with_all, three, glob_of, telling}
+use Rattle.odc_program.specs.Rows.Writing.{taken, taken_as, Bool_, Either, IntBool, Teller, Three, ToIntProc, IntProc, Int, num, loc, glob, node, args, elem, st, block_of, show, let_, zero, set, call, do_, give, at_place, proc, main, program, with_all, glob_of, telling}
 
 -- a call through a pointer that is nil: its arguments aren't evaluated: 2, and 5 up to the check
 abbrev pub callee_first : Program

@@ -1,5 +1,5 @@
 -- What an instance and its procedure are.
-use Rattle.std.specs.Prelude.{ℕ, ℤ, Bool, true, false, List, [], Result, Ok, Err, map, string_bytes}
+use Rattle.std.specs.Prelude.{ℕ, Bool, true, false, List, [], Result, Ok, Err, map, string_bytes}
 use Rattle.odc_text.specs.declared.place.Place.{Place}
 use Rattle.odc_text.specs.declared.code.Fault.{Fault}
 use Rattle.odc_program.specs.declared.program.Inst.{Inst}
