@@ -13,3 +13,5 @@ pub mod Loud
 pub mod Branches
 pub mod Arguments
 pub mod Exprs
+pub mod Stmts
+pub mod Simple

@@ -302,6 +302,26 @@ module _ (entries : ℕ → ℕ) where
       let x = f v t w h' holds in
       sim_runs Q j (cost + g) g (next w) t h' x.face v x.budget cost x.word x.runs told (x.told told) (omega arith) x.holds))
 
+  -- a source value made of another
+  pub sim_map : {A A' B : Type 0} (R : A → State → B → Face → Type 0) (Q : A' → State → B → Face → Type 0) (j b g : ℕ) (act : Fueled B) (s : State) (h : Face) (r : Res Leave State A) (f : A → A') →
+      ((v : A) (t : State) (w : B) (h' : Face) → R v t w h' → Q (f v) t w h') → Sim R j b g act s h r → Sim Q j b g act s h (then_by r (λ v. (λ t. ok (f v) t)))
+  sim_map R Q j b g act s h (ok v t) f k x = record {
+    by = record {
+      word = x.by.word;
+      face = x.by.face;
+      budget = x.by.budget;
+      cost = x.by.cost;
+      runs = x.by.runs;
+      holds = k v t x.by.word x.by.face x.by.holds;
+      told = x.by.told;
+      cheap = x.by.cheap;
+      turns = x.by.turns;
+      fewer = x.by.fewer;
+      reached = x.by.reached;
+    };
+  }
+  sim_map R Q j b g act s h (stop why t) f k x = record { by = x.by }
+
   -- parts in a row, bracketed otherwise
   pub onto_onto : {A B C : Type 0} (r : CoreRes A) (f : A → CoreAct B) (g : B → CoreAct C) → onto (onto r f) g ≡ onto r (λ v t. onto (f v t) g)
   onto_onto (fine v t) f g = refl
