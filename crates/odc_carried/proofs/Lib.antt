@@ -15,3 +15,6 @@ pub mod Arguments
 pub mod Exprs
 pub mod Stmts
 pub mod Simple
+pub mod Turns
+pub mod Lists
+pub mod Loops

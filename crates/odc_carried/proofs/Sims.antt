@@ -243,11 +243,11 @@ module _ (entries : ℕ → ℕ) where
       (omega arith) (omega arith) (omega arith) (λ t q. inr q) r z
 
   -- ---- turns: the source takes one where the core run uses one of its bound
-  pub sim_turn : {A B : Type 0} (R : A → State → B → Face → Type 0) (j j' b g y x : ℕ) (act act' : Fueled B) (s : State) (h : Face) (f : Do A) → Told s h →
-      ((n c : ℕ) → j ≤ n → act n (at h 0 c) ≡ halt going (at h 0 c)) → Leads j j' act act' h h y x → 1 ≤ y → x ≤ rate →
-      ((left : ℕ) → s.left ≡ suc left → (let u : State = record s { left = left; cost = s.cost + 1 } in Sim R j' b g act' u h (f u))) →
+  pub sim_turn : {A B : Type 0} (R : A → State → B → Face → Type 0) (j j' b b' g y x : ℕ) (act act' : Fueled B) (s : State) (h : Face) (f : Do A) → Told s h →
+      ((n c : ℕ) → j ≤ n → act n (at h 0 c) ≡ halt going (at h 0 c)) → Leads j j' act act' h h y x → 1 ≤ y → x + b' ≤ b + rate →
+      ((left : ℕ) → s.left ≡ suc left → (let u : State = record s { left = left; cost = s.cost + 1 } in Sim R j' b' g act' u h (f u))) →
       Sim R j b g act s h (turn f s)
-  sim_turn {A} {B} R j j' b g y x act act' s h f told stands leads one cheap k = by s.left refl
+  sim_turn {A} {B} R j j' b b' g y x act act' s h f told stands leads one cheap k = by s.left refl
     where
       by : (left : ℕ) → s.left ≡ left → Sim R j b g act s h (then_by (turn_from left s) (λ _. f))
       by zero e = record {
@@ -258,7 +258,16 @@ module _ (entries : ℕ → ℕ) where
       }
       by (suc left) e =
           let u : State = record s { left = left; cost = s.cost + 1 } in
-          sim_leads R j j' b b g y x act act' s u h h leads (omega (arith, e)) (omega (arith, e)) (omega arith) (λ t q. inr q) (f u) (k left e)
+          sim_leads R j j' b b' g y x act act' s u h h leads (omega (arith, e)) (omega (arith, e)) (omega arith) (λ t q. inr q) (f u) (k left e)
+
+  -- no turn is left, and the source knows
+  pub sim_out : {A B : Type 0} (R : A → State → B → Face → Type 0) (j b g : ℕ) (act : Fueled B) (s : State) (h : Face) → Told s h → ((n c : ℕ) → j ≤ n → act n (at h 0 c) ≡ halt going (at h 0 c)) → s.left ≤ 0 → Sim R j b g act s h (stop (ends going) s)
+  sim_out R j b g act s h told stands none = record {
+    by = record {
+      pause = record { face = h; budget = 0; cost = 0; is = λ n c le. stands n c (omega arith) ∙ halt_as going h 0 _ _ (sym (add-zero c)); told = told };
+      late = none;
+    };
+  }
 
   -- ---- a weaker relation, and the core run alone behind
   pub sim_weaker : {A B : Type 0} (R Q : A → State → B → Face → Type 0) (j b g : ℕ) (act : Fueled B) (s : State) (h : Face) (r : Res Leave State A) →
