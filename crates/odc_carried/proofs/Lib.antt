@@ -18,3 +18,4 @@ pub mod Simple
 pub mod Turns
 pub mod Lists
 pub mod Loops
+pub mod Bodies

@@ -33,7 +33,7 @@ use Rattle.odc_carried.proofs.Writes.{name}
 use Rattle.odc_carried.proofs.Frame.{WordAt, local_variable, ev, ex1, ex, r_set, r_one}
 use Rattle.odc_carried.proofs.Quiet.{Quiet, quiet_const, quiet_held, costing, IntType}
 use Rattle.odc_carried.proofs.Codes.{Ready, Alike, ready_cost, Codes, rejoin, join_assoc}
-use Rattle.odc_carried.proofs.Stmts.{IntLocal, own_size, Gave, Done, stored, opened, changed, set_sim, stays_above}
+use Rattle.odc_carried.proofs.Stmts.{IntLocal, Results, own_size, Gave, Done, stored, opened, changed, set_sim, stays_above}
 use Rattle.odc_carried.proofs.Evals.{sane_bytes}
 use Rattle.odc_carried.proofs.Exprs.{then_same}
 
@@ -165,12 +165,7 @@ module _ (S : Site) (F : Facts S) (calls : Calls) (c0 c : Context) where
   all_done u = ok tt u
 
   -- ---- answers
-  -- the result, where a procedure has one
-  pub record Results : Type 0 where
-    pub few : S.proc.results ≤ 1
-    pub is_int : S.proc.results ≡ 1 → IntLocal S S.proc.parameters
-
-  module _ (results : Results) where
+  module _ (results : Results S F) where
     -- what is loaded of a live variable
     pub record Stands (i : IntLocal S S.proc.parameters) (t : State) (h : Face) : Type 0 where
       pub value : Value

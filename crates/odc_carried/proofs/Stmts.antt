@@ -81,6 +81,11 @@ own_size S F src next m x i s t e = elim (t.since (name S x i.l) s tt e) [
 ]
 
 module _ (S : Site) (F : Facts S) where
+  -- the result, where a procedure has one
+  pub record Results : Type 0 where
+    pub few : S.proc.results ≤ 1
+    pub is_int : S.proc.results ≡ 1 → IntLocal S S.proc.parameters
+
   -- ---- how a statement is left
   -- the result, where there is one
   pub record Gave (w : ℕ) (t : State) : Type 0 where
