@@ -19,3 +19,4 @@ pub mod Turns
 pub mod Lists
 pub mod Loops
 pub mod Bodies
+pub mod Activation

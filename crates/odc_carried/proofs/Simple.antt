@@ -191,27 +191,31 @@ module _ (S : Site) (F : Facts S) (calls : Calls) (c0 c : Context) where
         }
 
     -- the result is answered as it stands
-    pub answer_sim : (j : ℕ) (h0 : Face) (t : State) (h : Face) → Ready S F t h → ((k : ℕ) → S.low + S.proc.frame ≤ k → h.memory k ≡ h0.memory k) →
-        Sim S.entries (Done S F h0) j 4 0 (ex S (one (answered (result_code (o S) S.proc.results)))) t h (left_by returns c t)
-    answer_sim j h0 t h ready above = by S.proc.results refl
+    pub answer_any : (Q : Left → State → Flow → Face → Type 0) (j : ℕ) (t : State) (h : Face) → Ready S F t h → ((w : ℕ) → Gave S F w t → Q (record { flow = returns; context = c }) t (answers w) h) →
+        Sim S.entries Q j 4 0 (ex S (one (answered (result_code (o S) S.proc.results)))) t h (left_by returns c t)
+    answer_any Q j t h ready holds = by S.proc.results refl
       where
-        answers_runs : (e : CoreExpr) (w L : ℕ) → Quiet S e h w L → L ≤ 3 → Gave S F w t → Sim S.entries (Done S F h0) j 4 0 (ex S (one (answered e))) t h (left_by returns c t)
+        answers_runs : (e : CoreExpr) (w L : ℕ) → Quiet S e h w L → L ≤ 3 → Gave S F w t → Sim S.entries Q j 4 0 (ex S (one (answered e))) t h (left_by returns c t)
         answers_runs e w L q few gave =
-            sim_runs S.entries (Done S F h0) j 4 0 (ex S (one (answered e))) t h h (record { flow = returns; context = c }) (q.budget + 0 + 1) (q.cost + 0 + 1) (answers w)
+            sim_runs S.entries Q j 4 0 (ex S (one (answered e))) t h h (record { flow = returns; context = c }) (q.budget + 0 + 1) (q.cost + 0 + 1) (answers w)
             (r_one S j (answered e) (runs_node (λ n. (λ t1. onto (ev S e n t1) (λ v. done (answers v)))) (runs_then (ev S e) (λ v n. done (answers v)) (q.runs j) (runs_pure j (answers w) h))))
-            ready.told ready.told (omega (arith, q.cheap)) (record { left = gave; ready = ready; above = above })
+            ready.told ready.told (omega (arith, q.cheap)) (holds w gave)
 
-        by : (n : ℕ) → S.proc.results ≡ n → Sim S.entries (Done S F h0) j 4 0 (ex S (one (answered (result_code (o S) S.proc.results)))) t h (left_by returns c t)
+        by : (n : ℕ) → S.proc.results ≡ n → Sim S.entries Q j 4 0 (ex S (one (answered (result_code (o S) S.proc.results)))) t h (left_by returns c t)
         by zero e =
-            let P : ℕ → Type 0 = λ n. Sim S.entries (Done S F h0) j 4 0 (ex S (one (answered (result_code (o S) n)))) t h (left_by returns c t) in
+            let P : ℕ → Type 0 = λ n. Sim S.entries Q j 4 0 (ex S (one (answered (result_code (o S) n)))) t h (left_by returns c t) in
             subst P (sym e) (answers_runs (word 0) 0 1 (quiet_const S 0 h (lit< tt)) (lit≤ tt) (record { value = []; there = λ one. absurd (omega (arith, one, e)); is = λ one. absurd (omega (arith, one, e)) }))
         by (suc n) e =
             let single : S.proc.results ≡ 1 = omega (arith, results.few, e) in
             let i : IntLocal S S.proc.parameters = results.is_int single in
             let x : Stands i t h = stands i t h (ready.answer single) ready in
-            let P : ℕ → Type 0 = λ n. Sim S.entries (Done S F h0) j 4 0 (ex S (one (answered (result_code (o S) n)))) t h (left_by returns c t) in
+            let P : ℕ → Type 0 = λ n. Sim S.entries Q j 4 0 (ex S (one (answered (result_code (o S) n)))) t h (left_by returns c t) in
             subst P (sym single) (answers_runs (held S.proc.parameters) x.word 3 (quiet_held S S.proc.parameters (variable_of S.tables i.l) x.word h (local_variable S S.proc.parameters i.l i.found) (omega (arith, i.size)) x.val.small x.there) (lit≤ tt)
             (record { value = x.value; there = λ _. x.loaded; is = λ _. x.val }))
+
+    pub answer_sim : (j : ℕ) (h0 : Face) (t : State) (h : Face) → Ready S F t h → ((k : ℕ) → S.low + S.proc.frame ≤ k → h.memory k ≡ h0.memory k) →
+        Sim S.entries (Done S F h0) j 4 0 (ex S (one (answered (result_code (o S) S.proc.results)))) t h (left_by returns c t)
+    answer_sim j h0 t h ready above = answer_any (Done S F h0) j t h ready (λ w gave. record { left = gave; ready = ready; above = above })
 
     -- a value for the result
     pub return_sim : (at : Place) (e : Expr) → S.proc.results ≡ 1 → Codes S F (Val S.entries 8) (before (o S) 0 e) (value (o S) 0 e) 0 (value_of calls (env S c) e) → (j : ℕ) (s : State) (h : Face) → Ready S F s h →

@@ -53,12 +53,13 @@ pub record IntLocal (S : Site) (x : ℕ) : Type 0 where
   pub l : Local
   pub found : slice_get S.proc.locals x ≡ Some l
   pub size : size_of S.tables l ≡ 8
+  pub kind : IntType S.tables l.ty
 
 pub int_local : (S : Site) (x : ℕ) → names_int S.tables S.proc x ≡ true → IntLocal S x
 int_local S x e = by (slice_get S.proc.locals x) refl e
   where
     by : (l : Option Local) → slice_get S.proc.locals x ≡ l → is_int_local S.tables l ≡ true → IntLocal S x
-    by (Some l) f g = record { l = l; found = f; size = (int_type S.tables l.ty g).size }
+    by (Some l) f g = record { l = l; found = f; size = (int_type S.tables l.ty g).size; kind = int_type S.tables l.ty g }
     by None f g = absurd (cc)
 
 index_of : Block → ℕ
