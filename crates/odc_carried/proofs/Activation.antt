@@ -68,7 +68,7 @@ module _ (S : Site) (F : Facts S) where
   pub record Rest (x : ℕ) (ls : List Local) : Type 0 where
     pub is : (i : ℕ) (l : Local) → slice_get ls i ≡ Some l → slice_get S.proc.locals (x + i) ≡ Some l
 
-  abbrev AreInts : ℕ → List Local → Type 0
+  abbrev pub AreInts : ℕ → List Local → Type 0
   AreInts zero ls = Unit {0}
   AreInts (suc n) [] = ⊥
   AreInts (suc n) (l ∷ ls) = (size_of S.tables l ≡ 8) × AreInts n ls
@@ -170,7 +170,7 @@ module _ (S : Site) (F : Facts S) where
             (done gave.value (record t { cost = t.cost + 1; memory = close t.memory S.serial }) refl (omega arith) refl refl (record { logs = ready.told.logs; input = ready.told.input; taken = ready.told.taken }) (λ one. gave.is one) (λ z. absurd (omega (arith, z, single))))
 
     -- ---- the body and the answer
-    pub rest_act : Stmts → Fueled ℕ
+    abbrev pub rest_act : Stmts → Fueled ℕ
     rest_act code n q = onto (ex S code n q) (λ flow. core_pure (word_of flow))
 
     -- an answer that came, and where it stands
@@ -219,7 +219,7 @@ module _ (S : Site) (F : Facts S) where
           by passes flow u h' e r above = absurd e
 
       -- ---- the result begins
-      pub begin_act : ℕ → Fueled ℕ
+      abbrev pub begin_act : ℕ → Fueled ℕ
       begin_act n = rest_act (join (begin_code (o S) n) (join code end))
 
       abbrev begun_run : ℕ → Do Value

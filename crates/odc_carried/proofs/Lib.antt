@@ -20,3 +20,4 @@ pub mod Lists
 pub mod Loops
 pub mod Bodies
 pub mod Activation
+pub mod Calls
