@@ -17,7 +17,7 @@ use Rattle.odc_carried.specs.Code.{join, one, waits, wait, wait_at, wait_offset,
 use Rattle.odc_carried.specs.Tied.{Tied, Site, o, cenv}
 use Rattle.odc_carried.proofs.Runs.{Face, with_memory, Fueled, Runs, runs_pure, runs_spend}
 use Rattle.odc_carried.proofs.Sims.{rate, Told, Sim, Behind, sim_first, sim_behind, sim_later, sim_richer, sim_act, sim_result}
-use Rattle.odc_carried.proofs.Ties.{Facts, Now, now_alike, below_own}
+use Rattle.odc_carried.proofs.Ties.{Facts, Now, now_alike, below_own, block}
 use Rattle.odc_carried.proofs.Frame.{WordAt, put_word, put_away, word_apart, wait_found, ev, ex1, ex, r_set}
 use Rattle.odc_carried.proofs.Quiet.{Quiet, quiet_held, costing, Gave, Went, Evaluated}
 
@@ -33,6 +33,8 @@ module _ (S : Site) (F : Facts S) where
     pub newer : S.serial < s.serial
     pub few : s.left ≤ S.fuel
     pub told : Told S.entries s h
+    -- the result has begun
+    pub answer : S.proc.results ≡ 1 → s.memory.size (block S S.proc.parameters) ≡ Some 8
 
   -- the variables, the values that wait below a depth, and what lies above the frame
   abbrev pub Zone : ℕ → ℕ → Type 0
@@ -47,17 +49,9 @@ module _ (S : Site) (F : Facts S) where
   pub alike_on : (d d' : ℕ) (h h' h'' : Face) → d ≤ d' → Alike d h h' → Alike d' h' h'' → Alike d h h''
   alike_on d d' h h' h'' le p q = record { by = λ i z. q.by i (elim z [ inl a ↦ inl (a.0, omega (arith, a.1)) | inr a ↦ inr a ]) ∙ p.by i z }
 
-  pub ready_as : (s s' : State) (h : Face) → s'.memory ≡ s.memory → s'.serial ≡ s.serial → s'.left ≤ s.left → Told S.entries s' h → Ready s h → Ready s' h
-  ready_as s s' h m n l told r = record {
-    now = let P : _ → Type 0 = λ q. Now S q s'.serial h.memory in let Q : ℕ → Type 0 = λ q. Now S s.memory q h.memory in subst P (sym m) (subst Q (sym n) r.now);
-    newer = omega (arith, r.newer, n);
-    few = omega (arith, r.few);
-    told = told;
-  }
-
   -- at a greater cost
   pub ready_cost : (s : State) (h : Face) (k : ℕ) → Ready s h → Ready (costing s k) h
-  ready_cost s h k r = record { now = record { tied = record { byte = r.now.tied.byte; sane = r.now.tied.sane }; since = r.now.since; kept = r.now.kept; fresh = r.now.fresh }; newer = r.newer; few = r.few; told = record { logs = r.told.logs; input = r.told.input; taken = r.told.taken } }
+  ready_cost s h k r = record { now = record { tied = record { byte = r.now.tied.byte; sane = r.now.tied.sane }; since = r.now.since; kept = r.now.kept; fresh = r.now.fresh }; newer = r.newer; few = r.few; told = record { logs = r.told.logs; input = r.told.input; taken = r.told.taken }; answer = r.answer }
 
   -- ---- a value that waits
   abbrev pub slot : ℕ → ℕ
@@ -74,6 +68,7 @@ module _ (S : Site) (F : Facts S) where
       newer = ready.newer;
       few = ready.few;
       told = record { logs = ready.told.logs; input = ready.told.input; taken = ready.told.taken };
+      answer = ready.answer;
     }
 
     pub waited_alike : Alike d h (waited d w h)

@@ -13,3 +13,11 @@ pub mod Loud
 pub mod Branches
 pub mod Arguments
 pub mod Exprs
+pub mod Stmts
+pub mod Simple
+pub mod Turns
+pub mod Lists
+pub mod Loops
+pub mod Bodies
+pub mod Activation
+pub mod Calls

@@ -243,11 +243,11 @@ module _ (entries : ℕ → ℕ) where
       (omega arith) (omega arith) (omega arith) (λ t q. inr q) r z
 
   -- ---- turns: the source takes one where the core run uses one of its bound
-  pub sim_turn : {A B : Type 0} (R : A → State → B → Face → Type 0) (j j' b g y x : ℕ) (act act' : Fueled B) (s : State) (h : Face) (f : Do A) → Told s h →
-      ((n c : ℕ) → j ≤ n → act n (at h 0 c) ≡ halt going (at h 0 c)) → Leads j j' act act' h h y x → 1 ≤ y → x ≤ rate →
-      ((left : ℕ) → s.left ≡ suc left → (let u : State = record s { left = left; cost = s.cost + 1 } in Sim R j' b g act' u h (f u))) →
+  pub sim_turn : {A B : Type 0} (R : A → State → B → Face → Type 0) (j j' b b' g y x : ℕ) (act act' : Fueled B) (s : State) (h : Face) (f : Do A) → Told s h →
+      ((n c : ℕ) → j ≤ n → act n (at h 0 c) ≡ halt going (at h 0 c)) → Leads j j' act act' h h y x → 1 ≤ y → x + b' ≤ b + rate →
+      ((left : ℕ) → s.left ≡ suc left → (let u : State = record s { left = left; cost = s.cost + 1 } in Sim R j' b' g act' u h (f u))) →
       Sim R j b g act s h (turn f s)
-  sim_turn {A} {B} R j j' b g y x act act' s h f told stands leads one cheap k = by s.left refl
+  sim_turn {A} {B} R j j' b b' g y x act act' s h f told stands leads one cheap k = by s.left refl
     where
       by : (left : ℕ) → s.left ≡ left → Sim R j b g act s h (then_by (turn_from left s) (λ _. f))
       by zero e = record {
@@ -258,7 +258,16 @@ module _ (entries : ℕ → ℕ) where
       }
       by (suc left) e =
           let u : State = record s { left = left; cost = s.cost + 1 } in
-          sim_leads R j j' b b g y x act act' s u h h leads (omega (arith, e)) (omega (arith, e)) (omega arith) (λ t q. inr q) (f u) (k left e)
+          sim_leads R j j' b b' g y x act act' s u h h leads (omega (arith, e)) (omega (arith, e)) (omega arith) (λ t q. inr q) (f u) (k left e)
+
+  -- no turn is left, and the source knows
+  pub sim_out : {A B : Type 0} (R : A → State → B → Face → Type 0) (j b g : ℕ) (act : Fueled B) (s : State) (h : Face) → Told s h → ((n c : ℕ) → j ≤ n → act n (at h 0 c) ≡ halt going (at h 0 c)) → s.left ≤ 0 → Sim R j b g act s h (stop (ends going) s)
+  sim_out R j b g act s h told stands none = record {
+    by = record {
+      pause = record { face = h; budget = 0; cost = 0; is = λ n c le. stands n c (omega arith) ∙ halt_as going h 0 _ _ (sym (add-zero c)); told = told };
+      late = none;
+    };
+  }
 
   -- ---- a weaker relation, and the core run alone behind
   pub sim_weaker : {A B : Type 0} (R Q : A → State → B → Face → Type 0) (j b g : ℕ) (act : Fueled B) (s : State) (h : Face) (r : Res Leave State A) →
@@ -301,6 +310,26 @@ module _ (entries : ℕ → ℕ) where
       (λ v t w h' holds told fewer.
       let x = f v t w h' holds in
       sim_runs Q j (cost + g) g (next w) t h' x.face v x.budget cost x.word x.runs told (x.told told) (omega arith) x.holds))
+
+  -- a source value made of another
+  pub sim_map : {A A' B : Type 0} (R : A → State → B → Face → Type 0) (Q : A' → State → B → Face → Type 0) (j b g : ℕ) (act : Fueled B) (s : State) (h : Face) (r : Res Leave State A) (f : A → A') →
+      ((v : A) (t : State) (w : B) (h' : Face) → R v t w h' → Q (f v) t w h') → Sim R j b g act s h r → Sim Q j b g act s h (then_by r (λ v. (λ t. ok (f v) t)))
+  sim_map R Q j b g act s h (ok v t) f k x = record {
+    by = record {
+      word = x.by.word;
+      face = x.by.face;
+      budget = x.by.budget;
+      cost = x.by.cost;
+      runs = x.by.runs;
+      holds = k v t x.by.word x.by.face x.by.holds;
+      told = x.by.told;
+      cheap = x.by.cheap;
+      turns = x.by.turns;
+      fewer = x.by.fewer;
+      reached = x.by.reached;
+    };
+  }
+  sim_map R Q j b g act s h (stop why t) f k x = record { by = x.by }
 
   -- parts in a row, bracketed otherwise
   pub onto_onto : {A B C : Type 0} (r : CoreRes A) (f : A → CoreAct B) (g : B → CoreAct C) → onto (onto r f) g ≡ onto r (λ v t. onto (f v t) g)

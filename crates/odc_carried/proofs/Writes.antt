@@ -201,3 +201,9 @@ now_back S S' F' src src' next m m' is same_entries newer t t' = record {
       closed_still src' S'.serial b s (t'.kept b s h first) (is_of_other S'.serial b (F'.floor.older b s h first));
   fresh = λ b s h e. t'.fresh b s h (closed_live src' S'.serial b s e).0;
 }
+
+-- a block of the caller is live still
+pub still_live : (S S' : Site) (F' : Facts S') (src src' : Memory) (next : ℕ) (m' : Flat) (b : Block) (s : ℕ) → S'.start ≡ src → IsTied b → src.size b ≡ Some s → Now S' src' next m' → (close src' S'.serial).size b ≡ Some s
+still_live S S' F' src src' next m' b s is h there t' =
+    let first : S'.start.size b ≡ Some s = ap (λ (q : Memory). q.size b) is ∙ there in
+    closed_still src' S'.serial b s (t'.kept b s h first) (is_of_other S'.serial b (F'.floor.older b s h first))

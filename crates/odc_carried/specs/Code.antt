@@ -314,7 +314,7 @@ result_code o zero = word 0
 result_code o (suc n) = held o.result
 
 abbrev pub return_code : Around → Rights → CoreStmts
-return_code o (each (more e none)) = join (before o 0 e) (one (answered (value o 0 e)))
+return_code o (each (more e none)) = join (before o 0 e) (then (put o.result (value o 0 e)) (one (answered (result_code o o.results))))
 return_code o vs = one (answered (result_code o o.results))
 
 abbrev pub condition_before : Around → Maybe → CoreStmts
