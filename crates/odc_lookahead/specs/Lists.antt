@@ -51,6 +51,6 @@ pub record Stuck (close : TokenKind) (ts : List Token) (left : ℕ) : Type 0 whe
   pub closing : StartsWithout close ts
 
 abbrev pub NotGoing : TokenKind → Fit → List Token → Stop → Type 0
-NotGoing close within ts (stop.Syntax left) = Stuck close ts left
-NotGoing close within ts (stop.Deep left) = Goes close ts left × (within ≡ fit.Over)
-NotGoing close within ts stop.Memory = ⊥
+NotGoing close w ts (stop.Syntax left) = Stuck close ts left
+NotGoing close w ts (stop.Deep left) = Goes close ts left × (w ≡ fit.Over)
+NotGoing close w ts stop.Memory = ⊥

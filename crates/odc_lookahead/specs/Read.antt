@@ -41,9 +41,9 @@ pub record IsThere (k : TokenKind) (within : Fit) (ts : List Token) (left : ℕ)
   pub over : within ≡ fit.Over
 
 abbrev pub NotExpected : TokenKind → Fit → List Token → Stop → Type 0
-NotExpected k within ts (stop.Syntax left) = (left ≡ length ts) × StartsWithout k ts
-NotExpected k within ts (stop.Deep left) = IsThere k within ts left
-NotExpected k within ts stop.Memory = ⊥
+NotExpected k w ts (stop.Syntax left) = (left ≡ length ts) × StartsWithout k ts
+NotExpected k w ts (stop.Deep left) = IsThere k w ts left
+NotExpected k w ts stop.Memory = ⊥
 
 -- a token of this kind stands first
 abbrev pub StartsWith : TokenKind → List Token → Type 0

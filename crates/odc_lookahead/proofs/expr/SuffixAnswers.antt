@@ -202,15 +202,15 @@ pub index_deep : (m : Mode) (b : ℕ) (t c : Token) (us : List Token) (x : Expr)
     Found (one (g.expression Free)) (continues Or Free) b us x n after → b < n → after ≡ c ∷ rest → c.kind ≡ kind.CloseBracket → TooDeep (one (suffix m)) nothing_continues b (t ∷ us) (length rest)
 index_deep m b t c us x n after rest e open' found over is k = behind_deep c rest is (inl k) (omega (arith, over)) (index_read m b t us x n after e open' found)
 
-pub colon_refused : (m : Mode) (b : ℕ) (t : Token) (us : List Token) (x : Expr) (n : ℕ) (after : List Token) (stop : Stop) (within : Fit) → t.kind ≡ kind.OpenBracket → StartsWithout kind.Colon us →
-    Found (one (g.expression Free)) (continues Or Free) b us x n after → StartsWithout kind.CloseBracket after → (within ≡ fit.Over → b < n) → NotExpected kind.Colon within after stop →
+pub colon_refused : (m : Mode) (b : ℕ) (t : Token) (us : List Token) (x : Expr) (n : ℕ) (after : List Token) (stop : Stop) (w : Fit) → t.kind ≡ kind.OpenBracket → StartsWithout kind.Colon us →
+    Found (one (g.expression Free)) (continues Or Free) b us x n after → StartsWithout kind.CloseBracket after → (w ≡ fit.Over → b < n) → NotExpected kind.Colon w after stop →
     Exact (one (suffix m)) nothing_continues b (t ∷ us) (refused stop)
-colon_refused m b t us x n after (stop.Syntax left) within e open' found closed over h =
+colon_refused m b t us x n after (stop.Syntax left) w e open' found closed over h =
     subst (λ (k : ℕ). Broken (one (suffix m)) nothing_continues b (t ∷ us) k) (sym h.0) (behind_broken closed h.1 (index_read m b t us x n after e open' found))
-colon_refused m b t us x n after (stop.Deep left) within e open' found closed over h =
+colon_refused m b t us x n after (stop.Deep left) w e open' found closed over h =
     let k = over h.over in
     subst (λ (k : ℕ). TooDeep (one (suffix m)) nothing_continues b (t ∷ us) k) (sym h.left_is) (behind_deep h.first h.rest h.is (inr h.kind) (omega (arith, k)) (index_read m b t us x n after e open' found))
-colon_refused m b t us x n after stop.Memory within e open' found closed over h = elim h [ ]
+colon_refused m b t us x n after stop.Memory w e open' found closed over h = elim h [ ]
 
 cut_read : (m : Mode) (b : ℕ) (t d : Token) (us : List Token) (x : Expr) (n : ℕ) (after rest : List Token) → t.kind ≡ kind.OpenBracket → StartsWithout kind.Colon us →
     Found (one (g.expression Free)) (continues Or Free) b us x n after → n ≤ b → after ≡ d ∷ rest → d.kind ≡ kind.Colon →

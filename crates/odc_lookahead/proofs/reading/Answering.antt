@@ -140,14 +140,14 @@ part_refused y cont' g (stop.Deep left) rises l within h clears = part_deep g ri
 part_refused y cont' g stop.Memory rises l within h clears = tt
 
 -- a token of a production isn't read
-pub token_refused : {V U : Type 0} {p : Part V} {cont : TokenKind → Bool} {up : ℕ → ℕ} {b : ℕ} {ts : List Token} (k : TokenKind) (g : Part U) {f : Token × U → V} {n : ℕ} {rest : List Token} (e : Stop) (within : Fit) →
-    Rises up → Led p cont up b ts (then_ (token k) g) f n rest → (within ≡ fit.Over → b < n) → NotExpected k within rest e → Exact p cont (up b) ts (refused e)
-token_refused {p = p} {cont = cont} {up = up} {b = b} {ts = ts} k g (stop.Syntax left) within rises l over h =
+pub token_refused : {V U : Type 0} {p : Part V} {cont : TokenKind → Bool} {up : ℕ → ℕ} {b : ℕ} {ts : List Token} (k : TokenKind) (g : Part U) {f : Token × U → V} {n : ℕ} {rest : List Token} (e : Stop) (w : Fit) →
+    Rises up → Led p cont up b ts (then_ (token k) g) f n rest → (w ≡ fit.Over → b < n) → NotExpected k w rest e → Exact p cont (up b) ts (refused e)
+token_refused {p = p} {cont = cont} {up = up} {b = b} {ts = ts} k g (stop.Syntax left) w rises l over h =
     subst (λ (n : ℕ). Broken p cont (up b) ts n) (sym h.0) (token_missing k g l h.1)
-token_refused {p = p} {cont = cont} {up = up} {b = b} {ts = ts} k g {f = f} {n = n} (stop.Deep left) within rises l over h =
+token_refused {p = p} {cont = cont} {up = up} {b = b} {ts = ts} k g {f = f} {n = n} (stop.Deep left) w rises l over h =
     subst (λ (n : ℕ). TooDeep p cont (up b) ts n) (sym h.left_is)
     (token_deep k g rises (subst (λ (r : List Token). Led p cont up b ts (then_ (token k) g) f n r) h.is l) (over h.over) h.kind)
-token_refused k g stop.Memory within rises l over h = elim h [ ]
+token_refused k g stop.Memory w rises l over h = elim h [ ]
 
 -- a token is read
 pub token_read : {V U : Type 0} {p : Part V} {cont : TokenKind → Bool} {up : ℕ → ℕ} {b : ℕ} {ts : List Token} {k : TokenKind} {g : Part U} {f : Token × U → V} {n : ℕ} {t : Token} {us rest : List Token} →

@@ -198,8 +198,8 @@ module _ {V L : Type 0} (item : Part V) (more : ℕ → L → Sym) (nil : L) (co
       more_again a.parted.comma us a.parted.kind a.open_ within (subst (λ (r : List Token). Led p cont (λ n. n) b ts Left f n r) a.parted.is l)
 
   -- it does not go on
-  pub list_refused : {V' : Type 0} {p : Part V'} {cont : TokenKind → Bool} {b : ℕ} {ts : List Token} {f : L × (Token × Unit {0}) → V'} {n : ℕ} {rest : List Token} (e : Stop) (within : Fit) → NotGoing close within rest e → (within ≡ fit.Over → b < n) →
+  pub list_refused : {V' : Type 0} {p : Part V'} {cont : TokenKind → Bool} {b : ℕ} {ts : List Token} {f : L × (Token × Unit {0}) → V'} {n : ℕ} {rest : List Token} (e : Stop) (w : Fit) → NotGoing close w rest e → (w ≡ fit.Over → b < n) →
       Led p cont (λ n. n) b ts Left f n rest → Exact p cont b ts (refused e)
-  list_refused {p = p} {cont = cont} {b = b} {ts = ts} (stop.Syntax left) within h over l = subst (λ (k : ℕ). Broken p cont b ts k) (sym h.left_is) (more_broken h.comma h.closing l)
-  list_refused {p = p} {cont = cont} {b = b} {ts = ts} (stop.Deep left) within h over l = subst (λ (k : ℕ). TooDeep p cont b ts k) (sym h.0.left_is) (more_deep h.0.first h.0.rest h.0.is h.0.kind (over h.1) l)
-  list_refused stop.Memory within h over l = elim h [ ]
+  list_refused {p = p} {cont = cont} {b = b} {ts = ts} (stop.Syntax left) w h over l = subst (λ (k : ℕ). Broken p cont b ts k) (sym h.left_is) (more_broken h.comma h.closing l)
+  list_refused {p = p} {cont = cont} {b = b} {ts = ts} (stop.Deep left) w h over l = subst (λ (k : ℕ). TooDeep p cont b ts k) (sym h.0.left_is) (more_deep h.0.first h.0.rest h.0.is h.0.kind (over h.1) l)
+  list_refused stop.Memory w h over l = elim h [ ]
