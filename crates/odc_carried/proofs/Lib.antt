@@ -23,5 +23,6 @@ pub mod Activation
 pub mod Calls
 pub mod Grows
 pub mod Shim
+pub mod Halts
 pub mod Printing
 pub mod Print

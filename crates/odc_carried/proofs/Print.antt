@@ -21,8 +21,9 @@ use Rattle.odc_carried.specs.Code.{put as set}
 use Rattle.odc_carried.specs.Tied.{Site, o, cenv}
 use Rattle.odc_carried.proofs.Values.{signed_low, signed_high, below_low, below_high, negated}
 use Rattle.odc_carried.proofs.Frame.{WordAt, word_apart, put_word, put_away, wait_found, number_found}
+use Rattle.odc_carried.proofs.Halts.{Halts, halts_one, halts_follow, halts_join}
 use Rattle.odc_carried.proofs.Shim.{Runs, runs_node, all_turns, ev, ex, ex1, r_const, r_held, r_binary, r_compare, r_set, r_follow, r_none, r_one, r_join, r_choose}
-use Rattle.odc_carried.proofs.Printing.{ba, pa, na, Hand, IsLow, Begun, before_runs, Looped, loop, start, started, finish_runs, Fewer, fewer_word}
+use Rattle.odc_carried.proofs.Printing.{ba, pa, na, Hand, IsLow, Begun, before_runs, Looped, loop, start, started, finish_runs, finish_halts, Fewer, fewer_word}
 
 -- the digits of a number, as the source writes them
 digits_decimal : (k n : ℕ) → Fewer k n → n < 2 ^ 64 → digits (suc k) n ≡ decimal n
@@ -34,6 +35,13 @@ digits_decimal (suc k) n few small_enough = by (nat_lt n 10) refl (digits_decima
     by false e rest =
         let big : 10 ≤ n = grind (arith, nat_tests) in
         ap (λ (b : Bool). digits_by b n (digits (suc k) (n / 10))) e ∙ ap (λ (ds : List ℕ). ds ++ ((48 + n % 10) ∷ [])) rest ∙ sym (decimal_step n big small_enough)
+
+some_digits : (u : ℕ) → u < 2 ^ 64 → 1 ≤ length (decimal u)
+some_digits u small = by (nat_lt u 10) refl
+  where
+    by : (b : Bool) → nat_lt u 10 ≡ b → 1 ≤ length (decimal u)
+    by true e = let less : u < 10 = grind (arith, nat_tests) in omega (arith, ap length (decimal_digit u less))
+    by false e = let big : 10 ≤ u = grind (arith, nat_tests) in omega (arith, ap length (decimal_step u big small), length-append (decimal (u / 10)) ((48 + u % 10) ∷ []))
 
 -- only the number's bytes changed
 hand_number : (S : Site) (m0 m m' : Memory) (text : List ℕ) → ((x : ℕ) → (x < (na S)) ⊎ ((na S) + 8 ≤ x) → m' x ≡ m x) → Hand S m0 m text → Hand S m0 m' text
@@ -60,7 +68,8 @@ module _ (j : ℕ) (S : Site) (I : List ℕ) (K : ℕ) (is : IsLow S) where
     pub budget : ℕ
     pub cost : ℕ
     pub runs : Runs I K j (ex j S I K ss) m l budget cost falls memory (l ++ map out text)
-    pub cheap : cost ≤ 100 * length text
+    pub cheap : cost ≤ 64 * length text
+    pub halts : Halts I K j (ex j S I K ss) m l memory (l ++ map out text)
     pub others : (x : ℕ) → (x < (ba S)) ⊎ ((na S) + 8 ≤ x) → memory x ≡ m x
 
   -- the number's bytes hold a word, and nothing else changed
@@ -151,12 +160,21 @@ module _ (j : ℕ) (S : Site) (I : List ℕ) (K : ℕ) (is : IsLow S) where
         let e2 = r_join j S I K (front (o S) (const behind)) (follow S3 (follow S4 (follow S5 (follow S6 (one S7))))) m1 m2 m6 l l l' (9 + 1) (13 + 1) (4 + (s.budget + b5)) (6 + (s.cost + c5)) falls b.runs e3 in
         let e1 = r_follow j S I K S1 (join (front (o S) (const behind)) (follow S3 (follow S4 (follow S5 (follow S6 (one S7)))))) m m1 m6 l l l' 5 6 ((9 + 1) + (4 + (s.budget + b5))) ((13 + 1) + (6 + (s.cost + c5))) falls
         (start S I K is j m l) e2 in
+        let rest7 = one S7 in
+        let g7 = halts_one I K j S S7 m6 l m6 l' (finish_halts S I K is j m m6 l text f.hand (omega (arith, counted))) in
+        let g6 = halts_follow I K j S S6 rest7 m5 m6 m6 l l l' f.budget f.cost f.runs g7 in
+        let g5 = halts_follow I K j S S5 (follow S6 rest7) m4 m5 m6 l l l' (p.budget + 1) (p.cost + 1) r5 g6 in
+        let g4 = halts_follow I K j S S4 (follow S5 (follow S6 rest7)) m3 m4 m6 l l l' s.budget s.cost s.runs g5 in
+        let g3 = halts_follow I K j S S3 (follow S4 (follow S5 (follow S6 rest7))) m2 m3 m6 l l l' 4 6 r3 g4 in
+        let g2 = halts_join I K j S (front (o S) (const behind)) (follow S3 (follow S4 (follow S5 (follow S6 rest7)))) m1 m2 m6 l l l' (9 + 1) (13 + 1) b.runs g3 in
+        let g1 = halts_follow I K j S S1 (join (front (o S) (const behind)) (follow S3 (follow S4 (follow S5 (follow S6 rest7))))) m m1 m6 l l l' 5 6 (start S I K is j m l) g2 in
         record {
           memory = m6;
+          halts = g1;
           budget = 5 + ((9 + 1) + (4 + (s.budget + b5)));
           cost = 6 + ((13 + 1) + (6 + (s.cost + c5)));
           runs = e1;
-          cheap = omega (arith, s.cheap, p.cheap, f.cheap, counted);
+          cheap = omega (arith, s.cheap, p.cheap, f.cheap, counted, some_digits u u_small);
           others = f.hand.others;
         }
 
@@ -257,8 +275,11 @@ module _ (j : ℕ) (S : Site) (I : List ℕ) (K : ℕ) (is : IsLow S) where
       let r7 : Runs I K j (ex1 j S I K S7) m2 l 9 (11 + (moved 1 + 1)) falls m2 l' = finish_runs S I K is j m m2 l (10 ∷ []) b.hand (lit≤ tt) in
       let e7 = r_one j S I K S7 m2 m2 l l' 9 (11 + (moved 1 + 1)) falls r7 in
       let e2 = r_join j S I K (front (o S) (const 10)) (one S7) m1 m2 m2 l l l' (9 + 1) (13 + 1) 9 (11 + (moved 1 + 1)) falls b.runs e7 in
+      let g7 = halts_one I K j S S7 m2 l m2 l' (finish_halts S I K is j m m2 l (10 ∷ []) b.hand (lit≤ tt)) in
+      let g2 = halts_join I K j S (front (o S) (const 10)) (one S7) m1 m2 m2 l l l' (9 + 1) (13 + 1) b.runs g7 in
       record {
         memory = m2;
+        halts = halts_follow I K j S S1 (join (front (o S) (const 10)) (one S7)) m m1 m2 l l l' 5 6 (start S I K is j m l) g2;
         budget = 5 + ((9 + 1) + 9);
         cost = 6 + ((13 + 1) + (11 + (moved 1 + 1)));
         runs = r_follow j S I K S1 (join (front (o S) (const 10)) (one S7)) m m1 m2 l l l' 5 6 ((9 + 1) + 9) ((13 + 1) + (11 + (moved 1 + 1))) falls (start S I K is j m l) e2;

@@ -22,6 +22,8 @@ use Rattle.odc_carried.specs.Code.{put as set}
 use Rattle.odc_carried.specs.Tied.{Site, o, cenv}
 use Rattle.odc_carried.proofs.Turns.{rest_of}
 use Rattle.odc_carried.proofs.Frame.{WordAt, word_apart, put_word, put_away, part_touched, buffer_found, pointer_found, number_found, bytes_run}
+use Rattle.odc_carried.proofs.Runs.{Fueled}
+use Rattle.odc_carried.proofs.Halts.{Halts, halts_node}
 use Rattle.odc_carried.proofs.Shim.{Runs, runs_pure, runs_as, runs_then, runs_node, runs_load, runs_write, runs_again, runs_out, ev, ex, ex1, r_const, r_slot, r_held, r_binary, r_set, r_byte, r_follow, r_none, r_one, r_join, r_choose, r_leave}
 
 -- ---- addresses: of the buffer, of the place of its first byte in use, and of the number
@@ -277,9 +279,12 @@ module _ (S : Site) (I : List ℕ) (K : ℕ) (is : IsLow S) where
     }
 
     -- the bytes in hand are written
-    pub finish_runs : (m0 m : Memory) (l : Log ℕ ℕ) (text : List ℕ) → Hand S m0 m text → length text ≤ 32 →
-        Runs I K j (ex1 j S I K (write_code (o S))) m l 9 (11 + (moved (length text) + length text)) falls m (l ++ map out text)
-    finish_runs m0 m l text h room =
+    abbrev writing : Fueled Flow
+    writing = λ k. ev j S I K (held (pointer_at (o S))) k >>= (λ x. ev j S I K (binary Subtract (binary Add (slot (buffer_at (o S))) (const 32)) (held (pointer_at (o S)))) k >>= (λ y. load_bytes (cenv S) x y >>= (λ bs. write_bytes Out bs >>= (λ _. pure falls))))
+
+    finish_inner : (m0 m : Memory) (l : Log ℕ ℕ) (text : List ℕ) → Hand S m0 m text → length text ≤ 32 →
+        Runs I K j (writing) m l (2 + (6 + (0 + (0 + 0)))) (3 + (7 + (moved (length text) + (length text + 0)))) falls m (l ++ map out text)
+    finish_inner m0 m l text h room =
         let p : ℕ = h.first in
         let n : ℕ = length text in
         let sum : plus ((ba S)) 32 ≡ (ba S) + 32 = mod-eq_of_lt (omega (arith, is.small)) ∙ omega arith in
@@ -296,9 +301,6 @@ module _ (S : Site) (I : List ℕ) (K : ℕ) (is : IsLow S) where
         part_touched S.outer S.low (variables_of (o S)) (buffer_at (o S)) (buffer (o S).low) p n (buffer_found S) (omega (arith, h.place)) (omega (arith, h.place)) in
         let read : loaded (touched_in S.outer S.low (variables_of (o S))) m p n ≡ Some text =
         ap (λ (b : Bool). if b then bytes_at m p n else None) touched ∙ bytes_run m p text h.bytes in
-        runs_as I K j (ex1 j S I K (write_code (o S))) m l (2 + (6 + (0 + (0 + 0))) + 1) 9 (3 + (7 + (moved n + (n + 0))) + 1) (11 + (moved n + n)) falls m (l ++ map out text) refl (omega arith)
-        (runs_node I K j (λ k. ev j S I K (held (pointer_at (o S))) k >>= (λ x. ev j S I K size k >>= (λ y. load_bytes (cenv S) x y >>= (λ bs. write_bytes Out bs >>= (λ _. pure falls)))))
-        m l (2 + (6 + (0 + (0 + 0)))) (3 + (7 + (moved n + (n + 0)))) falls m (l ++ map out text)
         (runs_then I K j (ev j S I K (held (pointer_at (o S)))) (λ x k. ev j S I K size k >>= (λ y. load_bytes (cenv S) x y >>= (λ bs. write_bytes Out bs >>= (λ _. pure falls))))
         m l 2 3 p m l (6 + (0 + (0 + 0))) (7 + (moved n + (n + 0))) falls m (l ++ map out text) where_from
         (runs_then I K j (ev j S I K size) (λ y k. load_bytes (cenv S) p y >>= (λ bs. write_bytes Out bs >>= (λ _. pure falls)))
@@ -306,4 +308,13 @@ module _ (S : Site) (I : List ℕ) (K : ℕ) (is : IsLow S) where
         (runs_then I K j (λ k. load_bytes (cenv S) p n) (λ bs k. write_bytes Out bs >>= (λ _. pure falls))
         m l 0 (moved n) text m l (0 + 0) (n + 0) falls m (l ++ map out text) (runs_load I K j (cenv S) p n text m l read)
         (runs_then I K j (λ k. write_bytes Out text) (λ _ k. pure falls) m l 0 n tt m (l ++ map out text) 0 0 falls m (l ++ map out text)
-        (runs_write I K j Out text m l) (runs_pure I K j falls m (l ++ map out text)))))))
+        (runs_write I K j Out text m l) (runs_pure I K j falls m (l ++ map out text))))))
+
+    pub finish_runs : (m0 m : Memory) (l : Log ℕ ℕ) (text : List ℕ) → Hand S m0 m text → length text ≤ 32 →
+        Runs I K j (ex1 j S I K (write_code (o S))) m l 9 (11 + (moved (length text) + length text)) falls m (l ++ map out text)
+    finish_runs m0 m l text h room =
+        runs_as I K j (ex1 j S I K (write_code (o S))) m l (2 + (6 + (0 + (0 + 0))) + 1) 9 (3 + (7 + (moved (length text) + (length text + 0))) + 1) (11 + (moved (length text) + length text)) falls m (l ++ map out text) refl (omega arith)
+        (runs_node I K j writing m l (2 + (6 + (0 + (0 + 0)))) (3 + (7 + (moved (length text) + (length text + 0)))) falls m (l ++ map out text) (finish_inner m0 m l text h room))
+
+    pub finish_halts : (m0 m : Memory) (l : Log ℕ ℕ) (text : List ℕ) → Hand S m0 m text → length text ≤ 32 → Halts I K j (ex1 j S I K (write_code (o S))) m l m (l ++ map out text)
+    finish_halts m0 m l text h room = halts_node I K j writing m l (2 + (6 + (0 + (0 + 0)))) (3 + (7 + (moved (length text) + (length text + 0)))) falls m (l ++ map out text) (finish_inner m0 m l text h room)
