@@ -21,3 +21,8 @@ pub mod Loops
 pub mod Bodies
 pub mod Activation
 pub mod Calls
+pub mod Grows
+pub mod Shim
+pub mod Halts
+pub mod Printing
+pub mod Print

@@ -12,7 +12,7 @@ use Rattle.odc_carried.proofs.Runs.{Face, at, with_memory, Fueled, as_told, Runs
 
 -- what a unit of the source's cost pays
 abbrev pub rate : ℕ
-rate = 40
+rate = 64
 
 -- at a greater cost
 abbrev pub spent : State → ℕ → State

@@ -8,7 +8,7 @@ use Rattle.std.proofs.lemmas.Int.{wrapping_add-bits, wrapping_sub-bits, wrapping
 use Rattle.std.proofs.lemmas.Bool.Decides.{nat_tests, Decides-int_eq}
 use Rattle.std.specs.Cmp.{unsigned_Decides}
 use Rattle.std.specs.Bool.{one_answer}
-use Rattle.rv_table.specs.Words.{plus, minus, quotient, remainder}
+use Rattle.rv_table.specs.Words.{plus, minus, quotient, remainder, signed_below}
 use Rattle.odc_program.specs.States.Bytes.{Byte, number, of_address, of_procedure, Value, bytes_of, number_of, after_byte, residue, int_bytes, signed_of, int_of}
 use Rattle.odc_core.specs.Words.{number_of as word_of, bytes_of as numbers_of}
 use Rattle.odc_carried.specs.Places.{byte_at, bytes_at}
@@ -204,3 +204,12 @@ behind_is (negsuc a) (negsuc b) = grind (arith, nat_tests)
 pub not_twice : (b : Bool) → not (not b) ≡ b
 not_twice true = refl
 not_twice false = refl
+
+pub below_low : (w : ℕ) → w < 2 ^ 63 → not (signed_below w 0) ≡ true
+below_low w h = ap (λ (z : ℤ). not (int_lt z (cast_signed w64 0))) (signed_low w h) ∙ (let test : nat_lt w 0 ≡ false = grind (arith, nat_tests) in ap not test)
+
+pub below_high : (w : ℕ) → 2 ^ 63 ≤ w → w < 2 ^ 64 → not (signed_below w 0) ≡ false
+below_high w h small = ap (λ (z : ℤ). not (int_lt z (cast_signed w64 0))) (signed_high w h small)
+
+pub negated : (w : ℕ) → 2 ^ 63 ≤ w → w < 2 ^ 64 → minus 0 w ≡ 2 ^ 64 - 1 - w + 1
+negated w h small = let small_one : 0 + (2 ^ 64 - w) < 2 ^ 64 = omega arith in mod-eq_of_lt small_one ∙ omega arith
