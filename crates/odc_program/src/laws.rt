@@ -503,6 +503,11 @@ pub fn frames_tested()
     ensures { map framed (with_frames (1472 ∷ []) first.wraps ∷ with_frames (944 ∷ 1232 ∷ 1072 ∷ 1072 ∷ []) second.named ∷ with_frames (1488 ∷ []) first.wraps ∷ with_frames (528 ∷ []) ill.too_near ∷ []) ≡ true ∷ true ∷ false ∷ false ∷ [] }
 {}
 
+/// A variable that a deferred statement declares is there, but not yet: a run strays where it is read.
+pub fn declared_late()
+    ensures { Prints ill.declared_late [] (strayed (at 1)) 5 0 }
+{}
+
 /// Small programs that are well.
 pub fn first_are_well()
     ensures { map well (first.wraps ∷ first.divides ∷ first.past_the_end ∷ first.late_check ∷ first.restored ∷ first.defers_in_loop (tree.break_ 7) ∷ first.nil_union ∷ []) ≡ replicate 7 true }
@@ -526,7 +531,7 @@ pub fn others_are_well()
 /// And some more: switches that cover an enum, by a span and a default, or a union; results and elements that are assigned;
 /// a contextless procedure that assigns a context; a struct that points to itself.
 pub fn covering_are_well()
-    ensures { map well (ill.over_errors 4 tree.no_cases ∷ ill.over_errors 1 (tree.default_case tree.finish tree.no_cases) ∷ ill.over_variants (tree.type_case (2 ∷ []) None tree.finish tree.no_types) ∷ ill.over_variants (tree.default_type None tree.finish tree.no_types) ∷ ill.result_assigned ∷ ill.turn_assigned true ∷ ill.assigns_context (zero 1 ∷ ill.set_context ∷ show (context_index ∷ []) ∷ []) ∷ ill.touches_helper 3952 ∷ ill.linked ∷ ill.global_of 0 ∷ []) ≡ replicate 10 true }
+    ensures { map well (ill.over_errors 4 tree.no_cases ∷ ill.over_errors 1 (tree.default_case tree.finish tree.no_cases) ∷ ill.over_variants (tree.type_case (2 ∷ []) None tree.finish tree.no_types) ∷ ill.over_variants (tree.default_type None tree.finish tree.no_types) ∷ ill.result_assigned ∷ ill.turn_assigned true ∷ ill.assigns_context (zero 1 ∷ ill.set_context ∷ show (context_index ∷ []) ∷ []) ∷ ill.touches_helper 3952 ∷ ill.linked ∷ ill.global_of 0 ∷ ill.declared_late ∷ []) ≡ replicate 11 true }
 {}
 
 /// Programs that aren't well: a call through another type, labels and variables that aren't there, variables that lie

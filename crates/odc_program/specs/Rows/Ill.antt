@@ -153,6 +153,10 @@ one_label = program (main [] [] (st (t.block 1 (block_of (st (t.loop 1 t.no_stmt
 abbrev pub too_early : Program
 too_early = program (main (at_place Int 128 ∷ []) [] (let_ 0 (loc Int 0) ∷ []) ∷ [])
 
+-- one that is declared by a deferred statement is read: a program, which strays
+abbrev pub declared_late : Program
+declared_late = program (main (at_place Int 128 ∷ []) [] (st (t.defer (let_ 0 (num 1))) ∷ show (loc Int 0 ∷ []) ∷ []) ∷ [])
+
 -- and behind the scope of its declaration
 abbrev pub too_late : Program
 too_late = program (main (at_place Int 128 ∷ []) [] (st (t.block 1 (block_of (let_ 0 (num 1) ∷ []))) ∷ show (loc Int 0 ∷ []) ∷ []) ∷ [])

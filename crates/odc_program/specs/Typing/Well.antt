@@ -349,10 +349,17 @@ begins_context (left_ (expr t at Tree.context) es) = true
 begins_context (left_ e es) = begins_context es
 begins_context (dropped es) = begins_context es
 
+-- a deferred declaration gives its names to the scope around it
+abbrev pub names_declared : Stmt → List (Option ℕ)
+names_declared (stmt at (Tree.declare xs values)) = xs
+names_declared (stmt at (Tree.defer s)) = names_declared s
+names_declared s = []
+
 -- what stands behind an assignment to the context, in its scope, has one; what stands behind a declaration sees its names
 abbrev pub behind : Stmt → Ways → Ways
 behind (stmt at (Tree.assign lefts values)) w = record w { context = w.context || begins_context lefts }
 behind (stmt at (Tree.declare xs values)) w = begins_names xs w
+behind (stmt at (Tree.defer s)) w = begins_names (names_declared s) w
 behind s w = w
 
 abbrev pub behind_maybe : MaybeStmt → Ways → Ways
