@@ -435,7 +435,7 @@ pub fn answers_less()
 
 /// An allocator call takes its turn, stands in the log, and then meets the stack check.
 pub fn no_stack()
-    ensures { Leaves asking.no_stack (asked 1 (pos 2) (pos 0) (pos 0) nil (pos 0) ∷ []) (checked check.Stack (at 9)) 3 1 }
+    ensures { Leaves asking.no_stack (asked 1 (pos 2) (pos 0) (pos 0) nil (pos 0) ∷ []) (checked check.Stack (at 109)) 3 1 }
 {}
 
 /// Without a turn that is left it doesn't stand in the log.
@@ -500,7 +500,12 @@ pub fn frames_sized()
 
 /// Programs whose frames are those of their trees, or aren't.
 pub fn frames_tested()
-    ensures { map framed (with_frames (1472 ∷ []) first.wraps ∷ with_frames (944 ∷ 1232 ∷ 1072 ∷ 1072 ∷ []) second.named ∷ with_frames (1488 ∷ []) first.wraps ∷ with_frames (528 ∷ []) ill.too_near ∷ []) ≡ true ∷ true ∷ false ∷ false ∷ [] }
+    ensures { map framed (with_frames (1472 ∷ []) first.wraps ∷ with_frames (944 ∷ 1232 ∷ 1072 ∷ 1072 ∷ []) second.named ∷ with_frames (1488 ∷ []) first.wraps ∷ with_frames (528 ∷ []) ill.too_near ∷ with_frames (1056 ∷ []) second.helped ∷ []) ≡ true ∷ true ∷ false ∷ false ∷ false ∷ [] }
+{}
+
+/// A variable that a deferred statement declares is there, but not yet: a run strays where it is read.
+pub fn declared_late()
+    ensures { Prints ill.declared_late [] (strayed (at 1)) 5 0 }
 {}
 
 /// Small programs that are well.
@@ -526,7 +531,7 @@ pub fn others_are_well()
 /// And some more: switches that cover an enum, by a span and a default, or a union; results and elements that are assigned;
 /// a contextless procedure that assigns a context; a struct that points to itself.
 pub fn covering_are_well()
-    ensures { map well (ill.over_errors 4 tree.no_cases ∷ ill.over_errors 1 (tree.default_case tree.finish tree.no_cases) ∷ ill.over_variants (tree.type_case (2 ∷ []) None tree.finish tree.no_types) ∷ ill.over_variants (tree.default_type None tree.finish tree.no_types) ∷ ill.result_assigned ∷ ill.turn_assigned true ∷ ill.assigns_context (zero 1 ∷ ill.set_context ∷ show (context_index ∷ []) ∷ []) ∷ ill.touches_helper 3952 ∷ ill.linked ∷ ill.global_of 0 ∷ []) ≡ replicate 10 true }
+    ensures { map well (ill.over_errors 4 tree.no_cases ∷ ill.over_errors 1 (tree.default_case tree.finish tree.no_cases) ∷ ill.over_variants (tree.type_case (2 ∷ []) None tree.finish tree.no_types) ∷ ill.over_variants (tree.default_type None tree.finish tree.no_types) ∷ ill.result_assigned ∷ ill.turn_assigned true ∷ ill.assigns_context (zero 1 ∷ ill.set_context ∷ show (context_index ∷ []) ∷ []) ∷ ill.touches_helper 3952 ∷ ill.linked ∷ ill.global_of 0 ∷ ill.declared_late ∷ ill.over_union (tree.default_case tree.finish tree.no_cases) ∷ asking.built_ins ∷ []) ≡ replicate 13 true }
 {}
 
 /// Programs that aren't well: a call through another type, labels and variables that aren't there, variables that lie
@@ -557,7 +562,7 @@ pub fn nor_those()
 /// or are others', the address of an element in columns, parts, defaults and headers that don't go together, and types
 /// that no value has.
 pub fn nor_any_of_these()
-    ensures { map well (ill.assigns_context (set context_index (num 1) ∷ []) ∷ ill.helper_calls ∷ ill.touches_helper 3960 ∷ ill.asks_another Plain ∷ ill.marked_other ∷ ill.declared_twice ∷ ill.result_declared ∷ ill.parameter_runs ∷ ill.element_addressed ∷ ill.part_twice ∷ ill.default_twice ∷ ill.header_defers ∷ ill.several_of_one ∷ ill.variable_of_several ∷ ill.too_great ∷ ill.holds_itself ∷ ill.points_to_itself ∷ ill.global_of 9 ∷ []) ≡ replicate 18 false }
+    ensures { map well (ill.assigns_context (set context_index (num 1) ∷ []) ∷ ill.helper_calls ∷ ill.touches_helper 3960 ∷ ill.asks_another Plain ∷ ill.marked_other ∷ ill.declared_twice ∷ ill.result_declared ∷ ill.parameter_runs ∷ ill.element_addressed ∷ ill.part_twice ∷ ill.default_twice ∷ ill.header_defers ∷ ill.several_of_one ∷ ill.variable_of_several ∷ ill.too_great ∷ ill.holds_itself ∷ ill.points_to_itself ∷ ill.global_of 9 ∷ ill.global_twice ∷ ill.text_twice ∷ ill.path_twice ∷ ill.helper_context ∷ ill.over_union tree.no_cases ∷ ill.parameter_cut ∷ []) ≡ replicate 24 false }
 {}
 
 /// Whether the two allocator procedures of the runtime library are there.

@@ -1,11 +1,12 @@
 -- Small programs: what allocators are asked and answer, regions, and memory that is raw.
 use Rattle.std.specs.Prelude.{ℕ, pos, true, [], ◌∷◌, Some, None, replicate}
+use Rattle.odc_program.specs.declared.ops.BinaryOp.TheVariants as op
 use Rattle.odc_program.specs.declared.ops.Builtin.TheVariants as b
 use Rattle.odc_program.specs.States.Bytes.{numbers}
 use Rattle.odc_program.specs.Trees.Tree as t
 use Rattle.odc_program.specs.Trees.Program.{Global, Program}
-use Rattle.odc_program.specs.Rows.Writing.{taken, Answered, Location, BytePointer, PointerError, FileAnswer, Int, IntPointer, IntArray, Byte_, ByteSlice_, Buffer, Error, Raw, AllocatorProc, num, of_type, nil_of, loc, glob, node, args, calls, elem, st, show, let_, set, do_, at_place, Proc, main, with_all, three, buffer, glob_of, address_of, allocator_of, short_of}
-use Rattle.odc_program.specs.Rows.Third.{array_over, kept, to_a, element, len, cap}
+use Rattle.odc_program.specs.Rows.Writing.{Allocator, ContextType, SoaArray, ToSoaArray, SoaSlice, LongSlice, Either, Bool_, I64, Rec, IntError, Nothing, rec_of, field, bin, zero, program, taken, Answered, Location, BytePointer, PointerError, FileAnswer, Int, IntPointer, IntArray, Byte_, ByteSlice_, Buffer, Error, Raw, AllocatorProc, num, of_type, nil_of, loc, glob, node, args, calls, elem, st, show, let_, set, do_, at_place, Proc, main, with_all, three, buffer, glob_of, address_of, allocator_of, short_of}
+use Rattle.odc_program.specs.Rows.Third.{array_over, kept, a, to_a, element, len, cap}
 
 -- memory that isn't zero
 abbrev pub ones : Global
@@ -73,3 +74,25 @@ slices_raw = with_all (buffer ∷ []) [] None (main (at_place ByteSlice_ 128 ∷
 abbrev pub reads_outside : Program
 reads_outside = with_all (buffer ∷ []) [] None (main (at_place ByteSlice_ 128 ∷ []) []
     (raw_slice 250 10 ∷ do_ (calls FileAnswer b.Read 20 (num 0 ∷ loc ByteSlice_ 0 ∷ [])) ∷ []) ∷ [])
+
+-- ---- built-in procedures on what `make` gives, each as typing gives it
+abbrev pub of_context : t.Expr
+of_context = field Allocator (node ContextType 1 t.context) 0
+
+abbrev pub records : t.Expr
+records = loc SoaArray 1
+
+abbrev pub to_records : t.Expr
+to_records = address_of ToSoaArray records
+
+abbrev pub built_ins : Program
+built_ins = program (main (at_place IntArray 128 ∷ at_place SoaArray 176 ∷ at_place IntPointer 232 ∷ at_place Either 248 ∷ at_place SoaSlice 280 ∷ []) [] (
+    let_ 0 (calls IntArray b.Make 20 (num 0 ∷ num 2 ∷ [])) ∷ let_ 1 (calls SoaArray b.Make 20 []) ∷ let_ 2 (calls IntPointer b.New 20 (of_context ∷ [])) ∷
+    do_ (calls IntError b.Append 21 (to_a ∷ num 7 ∷ num 8 ∷ [])) ∷ do_ (calls Int b.Append 21 (to_records ∷ rec_of 1 2 ∷ [])) ∷
+    do_ (calls Int b.Pop 22 (to_a ∷ [])) ∷ do_ (calls Rec b.Pop 22 (to_records ∷ [])) ∷ do_ (calls Nothing b.Clear 23 (to_a ∷ [])) ∷
+    do_ (calls Nothing b.OrderedRemove 24 (to_records ∷ num 0 ∷ [])) ∷ do_ (calls Nothing b.UnorderedRemove 25 (to_a ∷ num 0 ∷ [])) ∷
+    do_ (calls Error b.Reserve 26 (to_a ∷ num 9 ∷ [])) ∷ do_ (calls Error b.Resize 27 (to_records ∷ num 9 ∷ [])) ∷
+    zero 3 ∷ show (bin Bool_ op.Equal 28 (loc Either 3) (nil_of Either) ∷ []) ∷
+    let_ 4 (node SoaSlice 29 (t.cut records (t.present (num 1)) t.absent)) ∷ show (elem I64 30 (node LongSlice 31 (t.column (loc SoaSlice 4) 1)) (num 0) ∷ []) ∷
+    do_ (calls Raw b.RawData 32 (a ∷ [])) ∷ do_ (calls Error b.Delete 33 (a ∷ [])) ∷ do_ (calls Error b.Delete 33 (records ∷ [])) ∷
+    do_ (calls Error b.Free 34 (loc IntPointer 2 ∷ of_context ∷ [])) ∷ do_ (calls Error b.FreeAll 35 (of_context ∷ [])) ∷ []) ∷ [])

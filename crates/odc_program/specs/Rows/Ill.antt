@@ -4,11 +4,11 @@ use Rattle.odc_types.specs.declared.width.Width.TheVariants as width
 use Rattle.odc_program.specs.declared.ops.BinaryOp.TheVariants as op
 use Rattle.odc_program.specs.declared.ops.Builtin.TheVariants as b
 use Rattle.odc_program.specs.Trees.Tree as t
-use Rattle.odc_program.specs.Trees.Program.{Part, Program, Ty, Head, whole, address, soa_slice, fields, several, names}
+use Rattle.odc_program.specs.Trees.Program.{Part, Program, Ty, Global, Head, whole, address, soa_slice, fields, several, names}
 use Rattle.odc_program.specs.States.Bytes.{literal, to, pointer_bytes, int_bytes}
 use Rattle.odc_program.specs.Rows.Third.{contextless}
 use Rattle.odc_program.specs.Rows.Second.{with_helper, helper, call_help}
-use Rattle.odc_program.specs.Rows.Writing.{Contextless, ContextType, SoaThree, RecPointer, IntBool, nil_of, named, glob_of, lit, with_name, entry, field_at, IntPointer, IntProc, Three, Either, address_of, refuser, with_all, Subtracting, args, Error, Int, Text, Byte_, Nothing, Plain, Teller, num, of_type, bool, str, loc, elem, call, do_, give, let_, set, show, at_place, proc, main, program, saying, Bool_, Rune, IntSlice, Rec, Location, types, at, node, calls, bin, st, block_of, zero, one, words}
+use Rattle.odc_program.specs.Rows.Writing.{TakesThree, Proc, three, Contextless, ContextType, SoaThree, RecPointer, IntBool, nil_of, named, glob_of, lit, with_name, entry, field_at, IntPointer, IntProc, Three, Either, address_of, refuser, with_all, Subtracting, args, Error, Int, Text, Byte_, Nothing, Plain, Teller, num, of_type, bool, str, loc, elem, call, do_, give, let_, set, show, at_place, proc, main, program, saying, Bool_, Rune, IntSlice, Rec, Location, types, at, node, calls, bin, st, block_of, zero, one, words}
 
 -- two variables with no eight bytes between them
 abbrev pub too_near : Program
@@ -153,6 +153,10 @@ one_label = program (main [] [] (st (t.block 1 (block_of (st (t.loop 1 t.no_stmt
 abbrev pub too_early : Program
 too_early = program (main (at_place Int 128 ∷ []) [] (let_ 0 (loc Int 0) ∷ []) ∷ [])
 
+-- one that is declared by a deferred statement is read: a program, which strays
+abbrev pub declared_late : Program
+declared_late = program (main (at_place Int 128 ∷ []) [] (st (t.defer (let_ 0 (num 1))) ∷ show (loc Int 0 ∷ []) ∷ []) ∷ [])
+
 -- and behind the scope of its declaration
 abbrev pub too_late : Program
 too_late = program (main (at_place Int 128 ∷ []) [] (st (t.block 1 (block_of (let_ 0 (num 1) ∷ []))) ∷ show (loc Int 0 ∷ []) ∷ []) ∷ [])
@@ -212,8 +216,11 @@ abbrev pub stands_nowhere : Program
 stands_nowhere = program (main [] [] (t.stmt (record { file = record { number = 1 }; line = 4; column = 1 }) (t.block 1 t.finish) ∷ []) ∷ [])
 
 -- ---- the allocator procedures of the runtime library
+abbrev pub with_title : List ℕ → Proc
+with_title name = record { head = record refuser.head { name = name }; body = refuser.body }
+
 abbrev pub with_runtime : Option ℕ → Program
-with_runtime temp = kept (with_all [] [] (Some 1) (main [] [] [] ∷ refuser ∷ refuser ∷ []))
+with_runtime temp = kept (with_all [] [] (Some 1) (main [] [] [] ∷ with_title (codes "runtime.heap_allocator_proc") ∷ with_title (codes "runtime.temp_allocator_proc") ∷ []))
   where
     kept : Program → Program
     kept p = record p { tables = record p.tables { temp = temp } }
@@ -310,3 +317,43 @@ linked = with_types (with_name 90 (words 1 (length types) (fields (field_at 0 (l
 -- a global that names a literal that isn't there
 abbrev pub global_of : ℕ → Program
 global_of n = with_all (glob_of Text (pointer_bytes (to (literal 1342177280 n) 0) ++ int_bytes 8 (pos 1)) ∷ []) (lit (codes "a") ∷ []) None (main [] [] [] ∷ [])
+
+-- ---- things of one place
+-- two globals, and two procedures, in one column; and a path twice
+abbrev pub in_one_place : Program → Program
+in_one_place p = record p { tables = record p.tables { globals = here p.tables.globals } }
+  where
+    here : List Global → List Global
+    here [] = []
+    here (g ∷ gs) = g ∷ g ∷ gs
+
+abbrev pub global_twice : Program
+global_twice = in_one_place (with_all (three ∷ []) [] None (main [] [] [] ∷ []))
+
+abbrev pub text_twice : Program
+text_twice = moved (program (main [] [] [] ∷ proc Plain 0 0 [] [] [] ∷ []))
+  where
+    same_place : List Head → List Head
+    same_place (g ∷ h ∷ hs) = g ∷ record h { at = g.at } ∷ hs
+    same_place hs = hs
+
+    moved : Program → Program
+    moved p = record p { tables = record p.tables { procedures = same_place p.tables.procedures } }
+
+abbrev pub path_twice : Program
+path_twice = doubled (program (main [] [] [] ∷ []))
+  where
+    doubled : Program → Program
+    doubled p = record p { tables = record p.tables { paths = p.tables.paths ++ p.tables.paths } }
+
+-- a helper assigns a context
+abbrev pub helper_context : Program
+helper_context = with_helper (helper (set (node ContextType 1 t.context) (node ContextType 1 (t.build None t.no_parts)) ∷ [])) (call_help 7 ∷ [])
+
+-- a switch over a union, whose only item is nil
+abbrev pub over_union : t.Cases → Program
+over_union rest = program (main (at_place Either 128 ∷ []) [] (zero 0 ∷ st (t.switch 2 t.no_stmt (t.present (loc Either 0)) (t.one_case (t.item (nil_of Either) t.no_items) (block_of []) rest)) ∷ []) ∷ [])
+
+-- a parameter that is an array is cut
+abbrev pub parameter_cut : Program
+parameter_cut = program (main [] [] [] ∷ proc TakesThree 1 0 (at_place Three 128 ∷ at_place IntSlice 160 ∷ []) [] (let_ 1 (node IntSlice 39 (t.cut (loc Three 0) t.absent t.absent)) ∷ []) ∷ [])

@@ -215,6 +215,13 @@ Subtracting = 52
 abbrev pub ToIntProc : ℕ
 ToIntProc = 53
 
+abbrev pub LongSlice : ℕ
+LongSlice = 54
+
+-- a procedure that takes an array
+abbrev pub TakesThree : ℕ
+TakesThree = 55
+
 abbrev pub types : List Ty
 types =
     one 8 Int (whole width.Int) ∷
@@ -271,6 +278,8 @@ types =
     words 1 BoolsPointer (address Bools) ∷
     words 1 Subtracting (procedure true (Int ∷ Int ∷ []) (Int ∷ [])) ∷
     words 1 ToIntProc (address IntProc) ∷
+    words 2 LongSlice (slice I64) ∷
+    words 1 TakesThree (procedure true (Three ∷ []) []) ∷
     []
 
 -- ---- nodes; a constant and a name stand in column 1, others where they say
@@ -387,7 +396,12 @@ main locals needs body = proc Plain 0 0 locals needs body
 -- each is an instance of its own
 abbrev pub heads_from : ℕ → ℕ → List Proc → List Head
 heads_from n literal [] = []
-heads_from n literal (p ∷ ps) = record p.head { instance = plain_instance n; literal = literal } ∷ heads_from (n + 1) literal ps
+heads_from n literal (p ∷ ps) = record p.head { instance = plain_instance n; at = at (9 + 100 * n); literal = literal } ∷ heads_from (n + 1) literal ps
+
+-- and each global stands in a column of its own
+abbrev pub globals_from : ℕ → List Global → List Global
+globals_from n [] = []
+globals_from n (g ∷ gs) = record g { place = at n } ∷ globals_from (n + 1) gs
 
 abbrev pub bodies : List Proc → List Body
 bodies [] = []
@@ -407,7 +421,7 @@ path = codes "main.odin"
 -- globals, literals, and the procedure that the first context has as its allocator
 abbrev pub with_all : List Global → List Literal → Option ℕ → List Proc → Program
 with_all gs ls heap ps = record {
-  tables = record { types = types; globals = gs; literals = ls ++ (lit path ∷ lit (codes "f") ∷ []); procedures = heads_from 0 (length ls + 1) ps; paths = path ∷ []; files = length ls; heap = heap; temp = None; allocator = AllocatorProc };
+  tables = record { types = types; globals = globals_from 1 gs; literals = ls ++ (lit path ∷ lit (codes "f") ∷ []); procedures = heads_from 0 (length ls + 1) ps; paths = path ∷ []; files = length ls; heap = heap; temp = None; allocator = AllocatorProc };
   bodies = bodies ps;
   main = 0;
 }

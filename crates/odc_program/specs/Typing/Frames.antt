@@ -5,7 +5,7 @@ use Rattle.odc_program.specs.declared.ops.Builtin.{Builtin}
 use Rattle.odc_program.specs.declared.ops.Builtin.TheVariants as b
 use Rattle.odc_program.specs.Trees.Tree
 use Rattle.odc_program.specs.Trees.Tree.{Expr, expr, Kind, Exprs, none, more, Maybe, absent, present, Parts, no_parts, part, Lefts, no_lefts, left_, dropped, Rights, nothing, each, parted, Items, no_items, item, span, Over, from_to, through, Stmt, stmt, Form, MaybeStmt, no_stmt, some_stmt, Stmts, finish, follow, Cases, no_cases, one_case, default_case, TypeCases, no_types, type_case, default_type}
-use Rattle.odc_program.specs.Trees.Program.{Local, Head, Tables, Body, Program}
+use Rattle.odc_program.specs.Trees.Program.{Local, Head, Tables, Helper, Body, Program}
 use Rattle.odc_program.specs.States.State.{Env, size_of}
 use Rattle.odc_program.specs.Kinds.Layouts.{round_up}
 use Rattle.odc_program.specs.Typing.WellTypes.{values_in}
@@ -163,9 +163,14 @@ placed env at (l ∷ ls) = (l.place == at) && placed env (at + rounded (size_of 
 abbrev pub framed_procedure : Env → Head → Stmts → Bool
 framed_procedure env p body = (p.frame == frame_of env p body) && placed env 128 p.locals
 
+-- a checked program has no helpers
+abbrev pub has_none : List Helper → Bool
+has_none [] = true
+has_none (h ∷ hs) = false
+
 abbrev pub framed_from : Tables → List Head → List Body → Bool
 framed_from tables [] [] = true
-framed_from tables (p ∷ ps) (q ∷ qs) = framed_procedure (env_of tables p 0 0 0 None) p q.stmts && framed_from tables ps qs
+framed_from tables (p ∷ ps) (q ∷ qs) = (framed_procedure (env_of tables p 0 0 0 None) p q.stmts && has_none q.helpers) && framed_from tables ps qs
 framed_from tables _ _ = false
 
 -- each frame has the size, and each variable the place, that its procedure's tree gives

@@ -1,5 +1,5 @@
 -- The programs that typing gives: each node has the type that its rule gives it, and everything that it names is there.
-use Rattle.std.specs.Prelude.{ℕ, zero, suc, ◌+◌, ◌-◌, ◌*◌, ◌==◌, ◌&&◌, ◌||◌, not, Bool, true, false, nat_le, nat_lt, int_le, int_lt, if◌then◌else◌, ℤ, pos, List, [], ◌∷◌, ◌++◌, length, take, drop, max, get_or, Option, Some, None, slice_get}
+use Rattle.std.specs.Prelude.{ℕ, zero, suc, ◌+◌, ◌-◌, ◌*◌, ◌==◌, ◌&&◌, ◌||◌, not, Bool, true, false, nat_le, nat_lt, int_le, int_lt, if◌then◌else◌, ℤ, pos, List, [], ◌∷◌, ◌++◌, length, take, drop, max, get_or, Option, Some, None, slice_get, codes}
 use Rattle.std.specs.Ordering.{int_eq}
 use Rattle.odc_program.specs.declared.ops.Taken.{Taken}
 use Rattle.odc_program.specs.declared.ops.UnaryOp.{UnaryOp}
@@ -12,7 +12,7 @@ use Rattle.odc_program.specs.declared.ops.Constant.TheVariants as con
 use Rattle.odc_text.specs.declared.place.Place.{Place}
 use Rattle.odc_program.specs.Trees.Tree
 use Rattle.odc_program.specs.Trees.Tree.{Expr, expr, Kind, Exprs, none, more, Maybe, absent, present, Parts, no_parts, part, ty, tys, in_order, Lefts, no_lefts, left_, dropped, Rights, nothing, each, parted, Items, no_items, item, span, Over, from_to, through, Stmt, stmt, Form, MaybeStmt, no_stmt, some_stmt, Stmts, finish, follow, Cases, no_cases, one_case, default_case, TypeCases, no_types, type_case, default_type}
-use Rattle.odc_program.specs.Trees.Program.{Part, Shape, truth, text, array, slice, dynamic, soa_array, soa_slice, soa_dynamic, fields, variants, names, procedure, Local, Instance, Head, Global, Tables, Helper, Body, Program}
+use Rattle.odc_program.specs.Trees.Program.{Part, Shape, truth, text, array, slice, dynamic, soa_array, soa_slice, soa_dynamic, fields, variants, names, procedure, Local, Head, Global, Literal, Tables, Helper, Body, Program}
 use Rattle.odc_program.specs.States.State.{Env, size_of, shape_of, base_type, local_of}
 use Rattle.odc_program.specs.Kinds.Layouts.{parts_in}
 use Rattle.odc_program.specs.Kinds.Places.{home_type}
@@ -349,10 +349,17 @@ begins_context (left_ (expr t at Tree.context) es) = true
 begins_context (left_ e es) = begins_context es
 begins_context (dropped es) = begins_context es
 
+-- a deferred declaration gives its names to the scope around it
+abbrev pub names_declared : Stmt → List (Option ℕ)
+names_declared (stmt at (Tree.declare xs values)) = xs
+names_declared (stmt at (Tree.defer s)) = names_declared s
+names_declared s = []
+
 -- what stands behind an assignment to the context, in its scope, has one; what stands behind a declaration sees its names
 abbrev pub behind : Stmt → Ways → Ways
 behind (stmt at (Tree.assign lefts values)) w = record w { context = w.context || begins_context lefts }
 behind (stmt at (Tree.declare xs values)) w = begins_names xs w
+behind (stmt at (Tree.defer s)) w = begins_names (names_declared s) w
 behind s w = w
 
 abbrev pub behind_maybe : MaybeStmt → Ways → Ways
@@ -463,6 +470,10 @@ abbrev mutual
 abbrev pub can_change : Ways → Env → Expr → Bool
 can_change w env e = can_be_stored (stands env e) && not (is_part_of_one env w.fixed e)
 
+-- an array is cut, or run over by place, where it lies, and not in one of these variables
+abbrev pub can_be_cut : List ℕ → Env → Expr → Bool
+can_be_cut xs env e = lies_if_fixed (shape_of env (ty e)) (stands env e) && not (lies_in (shape_of env (ty e)) (is_part_of_one env xs e))
+
 -- an element of a container in columns has no address
 abbrev pub is_one_of : List ℕ → Expr → Bool
 is_one_of xs (expr t at (Tree.local x)) = WellTypes.has x xs
@@ -496,7 +507,7 @@ abbrev mutual
   well_kind w env t (Tree.field e n) = WellTypes.is_there (slice_get (parts_in (shape_of env (ty e))) n) (λ p. p.ty == t) && well_expr w env e
   well_kind w env t (Tree.deref e) = WellTypes.points_to t (shape_of env (ty e)) && well_expr w env e
   well_kind w env t (Tree.index e i) = WellTypes.is_whole (shape_of env (ty i)) && (index_type env (shape_of env (ty e)) t && (well_expr w env e && well_expr w env i))
-  well_kind w env t (Tree.cut e low high) = cut_type env (shape_of env (ty e)) (shape_of env t) && (lies_if_fixed (shape_of env (ty e)) (stands env e) && (well_expr w env e && (well_bound w env low && well_bound w env high)))
+  well_kind w env t (Tree.cut e low high) = cut_type env (shape_of env (ty e)) (shape_of env t) && (can_be_cut (parameters_of w env) env e && (well_expr w env e && (well_bound w env low && well_bound w env high)))
   well_kind w env t (Tree.column e n) = column_type env (shape_of env (ty e)) n (shape_of env t) && well_expr w env e
   well_kind w env t (Tree.call n order es) = need_of env n (λ p. not w.counts && ((w.context || not p.has_context) && call_type env (shape_of env p.ty) (in_order 0 order (tys es)) t)) && (is_order order (tys es) && well_exprs w env es)
   well_kind w env t (Tree.call_value marked e es) = (not w.counts && (if marked then (WellTypes.is_asked env (ty e)) else (w.context || not (is_odin (shape_of env (ty e)))))) && (call_type env (shape_of env (ty e)) (tys es) t && (well_expr w env e && well_exprs w env es))
@@ -565,7 +576,7 @@ declares env xs values = begins env xs (rights_types values)
 
 -- a context that is assigned as a whole need not be there before
 abbrev pub well_left : Ways → Env → Expr → Bool
-well_left w env (expr t at Tree.context) = has_path env at && (nat_lt t (length env.tables.types) && WellTypes.is_context env t)
+well_left w env (expr t at Tree.context) = not w.counts && (has_path env at && (nat_lt t (length env.tables.types) && WellTypes.is_context env t))
 well_left w env e = can_change w env e && well_expr w env e
 
 abbrev pub well_lefts : Ways → Env → Lefts → List ℕ → Bool
@@ -611,7 +622,7 @@ names_int env (Some x) = WellTypes.is_there (slice_get env.proc.locals x) (λ l.
 abbrev pub well_over : Ways → Env → Over → Option ℕ → Bool
 well_over w env (from_to e f closed) x = (ty e == ty f) && (WellTypes.is_whole (shape_of env (ty e)) && (names_local env x (ty e) && (well_expr w env e && well_expr w env f)))
 well_over w env (through e by_place) x =
-    WellTypes.is_there (WellTypes.element_in (shape_of env (ty e))) (λ t. names_local env x t) && ((not by_place || lies_if_fixed (shape_of env (ty e)) (stands env e)) && well_expr w env e)
+    WellTypes.is_there (WellTypes.element_in (shape_of env (ty e))) (λ t. names_local env x t) && ((not by_place || can_be_cut w.fixed env e) && well_expr w env e)
 
 -- the name of a case stands for its only variant, else for the union
 abbrev pub case_type : Env → ℕ → List ℕ → ℕ → Bool
@@ -659,6 +670,7 @@ cases_have z (default_case body rest) = true
 
 abbrev pub covers_values : Shape → Cases → Bool
 covers_values (names w es) cs = has_default cs || WellTypes.every (λ e. cases_have e.value cs) es
+covers_values (variants tag ts) cs = has_default cs
 covers_values _ cs = true
 
 abbrev pub covers : Env → Option ℕ → Cases → Bool
@@ -809,7 +821,7 @@ begins_once p body = WellTypes.once (begun_in body) && WellTypes.every (nat_le (
 abbrev pub well_helpers : Env → List Helper → Bool
 well_helpers env [] = true
 well_helpers env (h ∷ hs) =
-    (nat_le 128 h.head.frame && (types_known env h.head.locals && (WellTypes.every (in_helper env h.head) h.head.locals && (all_apart env h.head.locals && nat_le (h.head.parameters + h.head.results) (length h.head.locals))))) &&
+    ((has_path env h.head.at && nat_lt h.head.literal (length env.tables.literals)) && (nat_le 128 h.head.frame && (types_known env h.head.locals && (WellTypes.every (in_helper env h.head) h.head.locals && (all_apart env h.head.locals && nat_le (h.head.parameters + h.head.results) (length h.head.locals)))))) &&
     (begins_once h.head h.body && (well_stmts (in_helper_of (heads_of hs) h.head) (env_in env h.head) h.body && well_helpers env hs))
 
 abbrev pub well_body : Env → Body → Bool
@@ -830,13 +842,26 @@ outer_head = record { instance = record { proc = 0; types = []; numbers = [] }; 
     nowhere_at : Place
     nowhere_at = record { file = record { number = 0 }; line = 0; column = 0 }
 
--- no two procedures are one instance
-abbrev pub same_instance : Instance → Instance → Bool
-same_instance a b = (a.proc == b.proc) && (WellTypes.same_list a.types b.types && WellTypes.same_ints a.numbers b.numbers)
+-- ---- what tells procedures, globals, literals and files from each other
+abbrev pub apart_from_all : {A : Type 0} → (A → A → Bool) → List A → Bool
+apart_from_all same [] = true
+apart_from_all same (a ∷ x) = WellTypes.every (λ b. not (same a b)) x && apart_from_all same x
 
-abbrev pub instances_once : List Head → Bool
-instances_once [] = true
-instances_once (p ∷ ps) = WellTypes.every (λ q. not (same_instance p.instance q.instance)) ps && instances_once ps
+-- two procedures of one text, by its number or its place, and of equal types and numbers
+abbrev pub same_procedure : Head → Head → Bool
+same_procedure p q =
+    ((p.instance.proc == q.instance.proc) || WellTypes.same_place p.at q.at) && (WellTypes.same_list p.instance.types q.instance.types && WellTypes.same_ints p.instance.numbers q.instance.numbers)
+
+abbrev pub same_global : Global → Global → Bool
+same_global a b = WellTypes.same_place a.place b.place
+
+-- literals of one place differ in their bytes
+abbrev pub same_literal : Literal → Literal → Bool
+same_literal a b = WellTypes.same_place a.place b.place && WellTypes.same_list a.bytes b.bytes
+
+abbrev pub all_told : Tables → Bool
+all_told ts =
+    apart_from_all same_procedure ts.procedures && (apart_from_all same_global ts.globals && (apart_from_all same_literal ts.literals && apart_from_all WellTypes.same_list ts.paths))
 
 -- a global starts with numbers and addresses of literals
 abbrev pub is_literal_at : Env → Block → ℕ → Bool
@@ -862,13 +887,17 @@ may_ask env (Some f) = is_allocator_procedure env f
 abbrev pub well_tables : Env → Bool
 well_tables env =
     WellTypes.well_rows env 0 env.tables.types && (WellTypes.each_once env.tables.types && (WellTypes.every (well_global env) env.tables.globals &&
-    (WellTypes.every (λ l. has_path env l.place) env.tables.literals && (instances_once env.tables.procedures && (may_ask env env.tables.heap && may_ask env env.tables.temp)))))
+    (WellTypes.every (λ l. has_path env l.place) env.tables.literals && (all_told env.tables && (may_ask env env.tables.heap && may_ask env env.tables.temp)))))
 
 abbrev pub well : Program → Bool
 well p =
     well_tables (env_of p.tables outer_head 0 0 0 None) && (well_procedures p.tables 0 p.tables.procedures p.bodies && WellTypes.is_there (slice_get p.tables.procedures p.main) is_main)
 
 -- ---- the allocator procedures of the runtime library are there
+abbrev pub is_named : Tables → List ℕ → Option ℕ → Bool
+is_named ts name None = false
+is_named ts name (Some f) = is_allocator_procedure (env_of ts outer_head 0 0 0 None) f && WellTypes.is_there (slice_get ts.procedures f) (λ p. WellTypes.same_list p.name name)
+
 abbrev pub has_runtime : Program → Bool
 has_runtime p =
-    WellTypes.is_there p.tables.heap (is_allocator_procedure (env_of p.tables outer_head 0 0 0 None)) && WellTypes.is_there p.tables.temp (is_allocator_procedure (env_of p.tables outer_head 0 0 0 None))
+    is_named p.tables (codes "runtime.heap_allocator_proc") p.tables.heap && is_named p.tables (codes "runtime.temp_allocator_proc") p.tables.temp
