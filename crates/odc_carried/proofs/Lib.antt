@@ -26,3 +26,4 @@ pub mod Shim
 pub mod Halts
 pub mod Printing
 pub mod Print
+pub mod Lines
