@@ -8,4 +8,5 @@ pub mod Columns
 pub mod Asking
 pub mod Orders
 pub mod Framed
+pub mod Tables
 pub mod Ill

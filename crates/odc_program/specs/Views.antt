@@ -7,3 +7,4 @@ pub mod StmtView
 pub mod StmtFalls
 pub mod Instances
 pub mod ProgramView
+pub mod TableRows

@@ -16,6 +16,8 @@ ghost use Rattle.odc_program.specs.Rows.Columns as columns;
 ghost use Rattle.odc_program.specs.Rows.Asking as asking;
 ghost use Rattle.odc_program.specs.Rows.Orders as orders;
 ghost use Rattle.odc_program.specs.Rows.Framed.{frames, nodes, with_frames};
+ghost use Rattle.odc_program.specs.Rows.Tables as tables;
+ghost use Rattle.odc_program.specs.Views.TableRows.{rows_of};
 ghost use Rattle.odc_program.specs.Rows.Ill as ill;
 
 /// An `i8` wraps.
@@ -506,6 +508,16 @@ pub fn frames_tested()
 /// A variable that a deferred statement declares is there, but not yet: a run strays where it is read.
 pub fn declared_late()
     ensures { Prints ill.declared_late [] (strayed (at 1)) 5 0 }
+{}
+
+/// The rows of a small table of types: sizes, offsets and names, and what distinct types stand for.
+pub fn rows_of_a_table()
+    ensures { rows_of tables.bytes_of tables.nodes ≡ tables.rows }
+{}
+
+/// A program over the rows of a table is well.
+pub fn rows_are_well()
+    ensures { well tables.over_rows ≡ true }
 {}
 
 /// Small programs that are well.

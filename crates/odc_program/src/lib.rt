@@ -9,8 +9,9 @@
 //! a program passes or not.
 //!
 //! Not here yet:
-//! - No call makes the rows of a program from the table that `odc_types` builds, and nothing proves that such rows pass the
-//!   test. A row of its own stands for what an expression of none or several values gives.
+//! - The rows that the table of `odc_types` gives are defined (`specs/Views/TableRows`) and tried on a small table, but no
+//!   call makes them, and nothing proves that those of every table pass the test. Rows of their own stand for what an
+//!   expression of none or several values gives.
 //! - That the numbers of types don't matter is not proved.
 //! - Sequencing and spending (`specs/States/Run`) are parametric in the state and may move below.
 //! - The laws of all runs stand above, in `odc_program_laws`; functions that make, copy and drop trees in `odc_typed_tree`.
