@@ -1,7 +1,8 @@
 //! The built-in names, and the texts of the library.
 
 use odc_builtins::{
-    Builtin, Home, LibraryPackage, built_in, known_in, library, library_package, name,
+    Builtin, Home, LibraryPackage, Member, MemberKind, Predeclared, Refusal, built_in, known_in,
+    library, library_package, member_kind, member_of, name, predeclared_as, refused_as, refused_for,
 };
 
 /// The checksum of ISO 3309 (CRC-32) over bytes, as zlib and `gzip` compute it.
@@ -105,4 +106,39 @@ fn two_packages_have_no_text(rt: HostRuntime) {
     assert!(rt; library_package("core:thread").is_none());
     assert!(rt; library_package("core:").is_none());
     assert!(rt; library("runtime").is_none());
+}
+
+#[test]
+fn names_of_the_universe_are_known(rt: HostRuntime) {
+    assert!(rt; matches!(predeclared_as("byte"), Some(Predeclared::Byte)));
+    assert!(rt; matches!(predeclared_as("nil"), Some(Predeclared::Nil)));
+    assert!(rt; predeclared_as("f32").is_none());
+    for (name, want) in [
+        ("f32", Some(Refusal::Float)),
+        ("quaternion256", Some(Refusal::Float)),
+        ("any", Some(Refusal::TypeInfo)),
+        ("uintptr", Some(Refusal::Address)),
+        ("u16be", Some(Refusal::Integer)),
+        ("b64", Some(Refusal::Integer)),
+        ("soa_zip", Some(Refusal::Soa)),
+        ("i8le", None),
+        ("int", None),
+    ] {
+        assert!(rt; refused_as(name).map(|n| refused_for(n)) == want);
+    }
+}
+
+#[test]
+fn members_belong_to_their_package(rt: HostRuntime) {
+    assert!(rt;
+        matches!(
+            member_of(LibraryPackage::Fmt, "println"),
+            Some(Member::Println)
+        )
+    );
+    assert!(rt; member_of(LibraryPackage::Os, "println").is_none());
+    assert!(rt; member_of(LibraryPackage::Fmt, "Error").is_none());
+    assert!(rt; member_of(LibraryPackage::Runtime, "read").is_none());
+    let stderr = member_of(LibraryPackage::Os, "stderr").map(|m| member_kind(m));
+    assert!(rt; stderr == Some(MemberKind::Descriptor { number: 2 }));
 }

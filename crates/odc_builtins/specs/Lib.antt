@@ -1,2 +1,4 @@
 pub mod Names
 pub mod Libraries
+pub mod Universe
+pub mod Members

@@ -4,8 +4,8 @@ ghost use Rattle.odc_types.specs.declared.width.Width.TheVariants as width;
 ghost use Rattle.odc_types.specs.Parts.{HasPartsBelow};
 
 use odc_types::{
-    Convention, Field, LayoutError, Param, SizeAlign, SoaForm, Ty, TyId, TypeName, TypePlace,
-    TypeTable, Width, divide, wrap,
+    Field, LayoutError, SizeAlign, SoaForm, Ty, TyId, TypeName, TypePlace, TypeTable, Width,
+    divide, wrap,
 };
 use std::alloc::{AllocError, Global};
 
@@ -420,31 +420,34 @@ fn fits(size: u64, align: u64) -> Result<SizeAlign, LayoutError> {
 fn limits_of_size_are_told(rt: HostRuntime) -> Result<(), AllocError> {
     let alloc = rt.alloc();
     let mut table = TypeTable::new(alloc)?;
-    let byte = table.add(Ty::Int { width: Width::U8 })?;
-    let long = table.add(Ty::Int { width: Width::I64 })?;
-    for (count, of, want) in [
-        (0, byte, fits(0, 1)),
-        (0x10_0000, byte, fits(0x10_0000, 1)),
+    for (count, width, want) in [
+        (0, Width::U8, fits(0, 1)),
+        (0x10_0000, Width::U8, fits(0x10_0000, 1)),
         (
             0x10_0001,
-            byte,
+            Width::U8,
             Err(LayoutError::TooLarge { size: 0x10_0001 }),
         ),
-        (0x2_0000, long, fits(0x10_0000, 8)),
+        (0x2_0000, Width::I64, fits(0x10_0000, 8)),
         (
             0x2_0001,
-            long,
+            Width::I64,
             Err(LayoutError::TooLarge { size: 0x10_0008 }),
         ),
         (
             0x1fff_ffff_ffff_ffff,
-            long,
+            Width::I64,
             Err(LayoutError::TooLarge {
                 size: 0xffff_ffff_ffff_fff8,
             }),
         ),
-        (0x2000_0000_0000_0000, long, Err(LayoutError::Overflow)),
+        (
+            0x2000_0000_0000_0000,
+            Width::I64,
+            Err(LayoutError::Overflow),
+        ),
     ] {
+        let of = table.add(Ty::Int { width })?;
         let array = table.add(Ty::Array { count, of })?;
         assert!(rt; table.layout(array) == want);
     }
@@ -464,39 +467,36 @@ fn pointers(table: &mut TypeTable, levels: u32) -> Result<TyId, AllocError> {
 fn two_hundred_levels_are_allowed(rt: HostRuntime) -> Result<(), AllocError> {
     let alloc = rt.alloc();
     let mut table = TypeTable::new(alloc)?;
-    let most = pointers(&mut table, 199)?;
-    assert!(rt; table.layout(most) == fits(8, 8));
-    let more = pointers(&mut table, 200)?;
-    assert!(rt; table.layout(more) == Err(LayoutError::TooDeep));
-    let procedure = table.add(Ty::Proc {
-        convention: Convention::Odin,
-        params: vec![in alloc;
-            Param {
-                name: 1,
-                ty: most,
-                optional: false
-            },
-        ]?,
-        results: Vec::new(alloc),
-    })?;
-    assert!(rt; table.layout(procedure) == Err(LayoutError::TooDeep));
+    let pointer = pointers(&mut table, 199)?;
+    assert!(rt; table.layout(pointer) == fits(8, 8));
+    let pointer = pointers(&mut table, 200)?;
+    assert!(rt; table.layout(pointer) == Err(LayoutError::TooDeep));
+    let nested = wrapped(&mut table, alloc, 99)?;
+    assert!(rt; table.layout(nested) == fits(1, 1));
     let nested = wrapped(&mut table, alloc, 100)?;
     assert!(rt; table.layout(nested) == Err(LayoutError::TooDeep));
-    // Behind a pointer a named type counts one, however deep it is itself.
-    let behind = table.add(Ty::Ptr { to: nested })?;
-    assert!(rt; table.layout(behind) == fits(8, 8));
-    let last = wrapped(&mut table, alloc, 99)?;
-    assert!(rt; table.layout(last) == fits(1, 1));
-    let union = table.add(Ty::Union {
-        name: named(alloc, 1000),
-        variants: Some(vec![in alloc; last]?),
-    })?;
-    assert!(rt; table.layout(union) == fits(16, 8));
-    let deep = table.add(Ty::Union {
-        name: named(alloc, 1001),
-        variants: Some(vec![in alloc; union]?),
-    })?;
-    assert!(rt; table.layout(deep) == Err(LayoutError::TooDeep));
+    Ok(())
+}
+
+/// `u8` in so many arrays of one element, and under as many distinct types, behind a pointer.
+fn pointed(table: &mut TypeTable, alloc: Global, levels: u32) -> Result<TyId, AllocError> {
+    let mut ty = table.add(Ty::Int { width: Width::U8 })?;
+    for level in 0..levels {
+        let of = table.add(Ty::Array { count: 1, of: ty })?;
+        ty = table.add(Ty::Distinct {
+            name: named(alloc, level),
+            base: Some(of),
+        })?;
+    }
+    table.add(Ty::Ptr { to: ty })
+}
+
+#[test]
+fn a_named_type_behind_a_pointer_counts_one(rt: HostRuntime) -> Result<(), AllocError> {
+    let alloc = rt.alloc();
+    let mut table = TypeTable::new(alloc)?;
+    let pointer = pointed(&mut table, alloc, 300)?;
+    assert!(rt; table.layout(pointer) == fits(8, 8));
     Ok(())
 }
 
