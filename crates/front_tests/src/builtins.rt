@@ -2,7 +2,8 @@
 
 use odc_builtins::{
     Builtin, Home, LibraryPackage, Member, MemberKind, Predeclared, Refusal, built_in, known_in,
-    library, library_package, member_kind, member_of, name, predeclared_as, refused_as, refused_for,
+    library, library_package, member_kind, member_of, name, predeclared_as, refused_as,
+    refused_for,
 };
 
 /// The checksum of ISO 3309 (CRC-32) over bytes, as zlib and `gzip` compute it.

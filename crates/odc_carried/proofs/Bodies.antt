@@ -41,7 +41,6 @@ use Rattle.odc_carried.proofs.Loops.{Above, Cond, cond_absent, cond_present, loo
 module _ (S : Site) (F : Facts S) (calls : Calls) (follows : CallsFollow S F (λ f vs c low. calls.call f (pure tt) vs c low)) (results : Results S F) (c0 : Context)
     (prints : (c : Context) (t : ℕ) (at : Place) (es : Exprs) → is_nothing S.tables t ≡ true → refused_ints S.tables S.proc es ≡ None → depths es ≤ (o S).waiting → (j : ℕ) (s : State) (h : Face) → Ready S F s h →
     Sim S.entries (Done S F h) j 0 0 (ex S (join (waits_all (o S) 0 es) (line_code (o S) 0 (count es)))) s h (run_eval (value_of calls (env S c) (expr t at (builtin b.Println [] es))) c s)) where
-
   join_done : (a : CoreStmts) → join a done ≡ a
   join_done done = refl
   join_done (next x a) = ap (next x) (join_done a)
