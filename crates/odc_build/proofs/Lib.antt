@@ -5,3 +5,5 @@ mod Widths
 pub mod Limits
 mod Whole
 mod Counts
+mod Files
+mod Filed

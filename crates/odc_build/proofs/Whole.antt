@@ -4,7 +4,7 @@ use Rattle.std.proofs.Math.Nat.{le_refl}
 use Rattle.odc_text.specs.Run.{Run, Entry}
 use Rattle.odc_text.specs.Follow.{KeepsOn}
 use Rattle.odc_text.proofs.Keep.{keeps_on_composes, keeps_follows_on}
-use Rattle.rv_table.specs.Run.{Site, Image, machine}
+use Rattle.rv_table.specs.Run.{Image, machine}
 use Rattle.odc_typed.specs.Tree.{Whole}
 use Rattle.odc_typed.specs.Source.{source}
 use Rattle.odc_typed.specs.Well.{IsWell, signatures}
@@ -16,10 +16,10 @@ use Rattle.odc_mid.specs.Tree.{Whole as MidWhole}
 use Rattle.odc_lower.specs.Size.{AreCountable}
 use Rattle.odc_lower.specs.Lowered.{IsLowered}
 use Rattle.odc_lower.specs.Lowered.{IsKept as LowerKeeps}
-use Rattle.rv_emit.specs.Code.{entry_of, sites_of, calls_of}
+use Rattle.rv_emit.specs.Code.{entry_of}
 use Rattle.rv_emit.specs.Layout.{AllHaveSlots, IsShort, factor, image_of}
 use Rattle.rv_emit.specs.Emitted.{IsKept as EmitKeeps}
-use Rattle.odc_build.specs.Kept.{IsWithin, placed, widest, step_cost, KeepsAll, FollowsAll, IsBuilt, image_from}
+use Rattle.odc_build.specs.Kept.{IsWithin, placed, widest, step_cost, KeepsAll, FollowsAll}
 use Rattle.odc_build.proofs.Limits.{all_become, all_slots, countable, all_small, all_narrow, widest_at_most}
 
 -- what `lower` asks for
@@ -38,13 +38,6 @@ module _ (w : Whole) (q : MidWhole) (lowered : IsLowered (crossed_program w) q) 
   pub cheaper : IsWell w → factor q ≤ step_cost w
   cheaper well =
       omega (arith, all_narrow (widest w.procedures) (signatures w.procedures) q.procedures w.procedures (widest_at_most (widest w.procedures) w.procedures (le_refl (widest w.procedures))) well.procedures (all_become q.procedures w.procedures lowered.procedures))
-
-  -- what is loaded is the image of the mid program
-  pub same_image : (text store : List ℕ) (size : ℕ) (sites : List Site) (calls : List ℕ) → store ≡ q.store → size ≡ q.store_size → sites ≡ sites_of q → calls ≡ calls_of q →
-      image_from text store size sites calls ≡ image_of q text
-  same_image text store size sites calls d e f g =
-      ap (λ (x : List ℕ). image_from text x size sites calls) d ∙ ap (λ (x : ℕ). image_from text q.store x sites calls) e
-      ∙ ap (λ (x : List Site). image_from text q.store q.store_size x calls) f ∙ ap (λ (x : List ℕ). image_from text q.store q.store_size (sites_of q) x) g
 
 -- a smaller factor will do for a larger one
 more_costs : (a b x c d y : ℕ) → a ≤ b → c ≤ d → y ≤ a * x + c → y ≤ b * x + d
@@ -79,9 +72,3 @@ module _ (w : Whole) (q : MidWhole) (lowered : IsLowered (crossed_program w) q) 
 pub all_followed : (entries : ℕ → ℕ) (w : Whole) (image : Image) → KeepsAll entries w image → FollowsAll entries w image
 all_followed entries w image k input bytes =
     keeps_follows_on (step_cost w * 1200) (step_cost w * 2 + 18) (placed entries) (source w) (machine image) input (k input bytes)
-
--- what is built of a program
-pub all_built : (w : Whole) (q : MidWhole) → IsLowered (crossed_program w) q → IsWell w → (text : List ℕ) → LowerKeeps (crossed_program w) q → EmitKeeps (entry_of q) q (image_of q text) → (image : Image) → image ≡ image_of q text → IsBuilt w image
-all_built w q lowered well text kept emitted image same =
-    let keeps' : KeepsAll (entry_of q) w image = subst (λ (i : Image). KeepsAll (entry_of q) w i) (sym same) (all_kept w q lowered well text kept emitted) in
-    record { entry_of = entry_of q; kept = keeps'; followed = all_followed (entry_of q) w image keeps' }

@@ -1,12 +1,19 @@
--- What the step from a program to an image promises, and which programs it takes.
-use Rattle.std.specs.Prelude.{ℕ, ◌+◌, ◌*◌, ◌≤◌, max, List, [], ◌∷◌, length}
+-- What the step from a program to a file promises, and which programs it takes.
+use Rattle.std.specs.Prelude.{◌≡◌, ℕ, ◌+◌, ◌*◌, ◌≤◌, max, List, [], ◌∷◌, length, None}
 use Rattle.odc_text.specs.Run.{Entry, entry_by}
 use Rattle.odc_text.specs.Follow.{KeepsOn, FollowsOn}
 use Rattle.odc_core.specs.Well.{AreBytes}
-use Rattle.rv_table.specs.Run.{Image, Site, machine}
+use Rattle.rv_table.specs.Run.{Image, machine}
+use Rattle.odc_mid.specs.Tree.{Whole as MidWhole}
+use Rattle.odc_context.specs.Code.{crossed_program}
+use Rattle.odc_lower.specs.Lowered.{IsLowered}
 use Rattle.rv_emit.specs.Code.{text_start}
 use Rattle.rv_emit.specs.Layout.{text_range, memory_ranges}
-use Rattle.odc_build.specs.declared.compile.Executable.{Executable}
+use Rattle.rv_emit.specs.Encoded.{IsEncoded}
+use Rattle.rv_emit.specs.Blocks.{blocks_of, linked_code, all_sites, all_calls}
+use Rattle.rv_sites.specs.declared.sites.ProcedureName.{ProcedureName}
+use Rattle.rv_link.specs.Linked.{names_from, first_block}
+use Rattle.elf_file.specs.Rules.{Image as FileImage, Denotes, refused}
 use Rattle.odc_typed.specs.Tree.{Proc, Whole}
 use Rattle.odc_typed.specs.Bytes.{Address}
 use Rattle.odc_typed.specs.Frame.{FramesFit}
@@ -52,15 +59,41 @@ KeepsAll entry_of p image = (input : List ℕ) → AreBytes input → KeptBy ent
 abbrev pub FollowsAll : (ℕ → ℕ) → Whole → Image → Type 0
 FollowsAll entry_of p image = (input : List ℕ) → AreBytes input → FollowsOn (placed entry_of) (source p) (machine image) input
 
--- what is loaded: the text at its address, the memory of a run, sites and calls of allocators
-abbrev pub image_from : List ℕ → List ℕ → ℕ → List Site → List ℕ → Image
-image_from text store size sites calls = record { ranges = text_range text ∷ memory_ranges store size; entry = text_start; sites = sites; calls = calls }
+-- ---- what a file promises
 
-abbrev pub loaded : Executable → Image
-loaded x = image_from x.text.items x.store.items x.store_size x.sites.items x.calls.items
+-- what the machine loads of an image that a file denotes
+abbrev pub loaded : FileImage → Image
+loaded i = record { ranges = i.ranges; entry = i.entry; sites = i.lists.checks; calls = i.lists.calls }
 
--- a way to read procedures as addresses, by which the image keeps the program's run and follows it
-pub record IsBuilt (p : Whole) (image : Image) : Type 0 where
+-- the entry and the name of each procedure, of which the first has this number
+abbrev pub procedures_from : (ℕ → ℕ) → ℕ → List Proc → List ProcedureName
+procedures_from entry_of k [] = []
+procedures_from entry_of k (p ∷ ps) = record { entry = entry_of k; name = p.name } ∷ procedures_from entry_of (k + 1) ps
+
+-- The bytes denote an image and meet all nine rules. There is a way to read procedures as addresses, by which
+-- the image keeps the program's run and follows it. The paths are those of the program, and the procedures are
+-- listed in its order, each with its entry and its name.
+pub record IsBuilt (p : Whole) (paths : List (List ℕ)) (bytes : List ℕ) : Type 0 where
+  pub image : FileImage
+  pub denotes : Denotes bytes image
+  pub accepted : refused bytes ≡ None
   pub entry_of : ℕ → ℕ
-  pub kept : KeepsAll entry_of p image
-  pub followed : FollowsAll entry_of p image
+  pub kept : KeepsAll entry_of p (loaded image)
+  pub followed : FollowsAll entry_of p (loaded image)
+  pub files : image.lists.paths ≡ paths
+  pub names : image.lists.names ≡ procedures_from entry_of 0 p.procedures
+
+-- The bytes denote the image of linked blocks: one for each procedure, in the program's order, made of the mid
+-- code that the procedure's core code becomes.
+pub record IsMade (p : Whole) (bytes : List ℕ) : Type 0 where
+  pub mid : MidWhole
+  pub pieces : IsLowered (crossed_program p) mid
+  pub text : List ℕ
+  pub code : IsEncoded text (linked_code (blocks_of mid))
+  pub image : FileImage
+  pub denotes : Denotes bytes image
+  pub ranges : image.ranges ≡ text_range text ∷ memory_ranges mid.store mid.store_size
+  pub entry : image.entry ≡ text_start
+  pub checks : image.lists.checks ≡ all_sites (blocks_of mid).list
+  pub names : image.lists.names ≡ names_from first_block (blocks_of mid).list
+  pub calls : image.lists.calls ≡ all_calls first_block (blocks_of mid).list

@@ -1,96 +1,63 @@
-//! From a typed program to its executable.
+//! From a typed program to the file of its executable.
 
-ghost use Rattle.std.specs.Prelude.{◌≤◌, IfOk, length};
+ghost use Rattle.std.specs.Prelude.{◌≡◌, IfOk};
 ghost use Rattle.odc_typed.specs.View.{program};
 ghost use Rattle.odc_typed.specs.Well.{IsWell};
-ghost use Rattle.odc_build.specs.Kept.{IsWithin, IsBuilt, loaded};
+ghost use Rattle.odc_build.specs.Files.{CanList};
+ghost use Rattle.odc_build.specs.Kept.{IsWithin, IsBuilt, IsMade};
+ghost use Rattle.odc_build.specs.Linking.{IsImageOf};
 
+use elf_file::write::write_elf;
 use odc_context::context::pass_context;
 use odc_lower::lower::lower;
-use odc_text::check::Check;
-use odc_text::place::Place;
+use odc_text::path::PathText;
 use odc_typed::tree::Program;
-use rv_emit::image::image;
+use rv_emit::image::emit;
+use rv_link::link::{Store, link};
+use rv_sites::image::Image;
+use rv_sites::sites::ByteString;
 use std::alloc::{AllocError, Global};
 
-/// The address of the text, and of its first instruction.
-pub const TEXT_START: u64 = 0x10000;
-
-/// What the machine loads. The text begins at `TEXT_START`, which is also the entry, and the store at
-/// 0x5000_0000; bytes of the store that aren't given are zero.
-#[derive(Drop)]
-pub struct Executable {
-    pub text: Vec<u8>,
-    pub store: Vec<u8>,
-    pub store_size: u64,
-    /// The sites of the checks, by their numbers.
-    pub sites: Vec<(Check, Place)>,
-    /// The addresses of the instructions that call an allocator.
-    pub calls: Vec<u64>,
+/// Copies of the bytes of paths.
+fn bytes_of(alloc: Global, paths: &[PathText]) -> Result<Vec<ByteString>, AllocError>
+    ensures { IfOk result (λ list. list.items ≡ paths.now) }
+{
+    let mut list = Vec::with_capacity(alloc, paths.len())?;
+    for path in paths {
+        list.push(ByteString::copied(alloc, path.as_str().as_bytes())?)?;
+    }
+    Ok(list)
 }
 
-/// The executable of a program: its run on the machine keeps the source run on every input of bytes,
-/// and follows it. Addresses of the source are read by their places, procedures by their first
-/// instructions.
-pub fn compile(alloc: Global, p: &Program) -> Result<Executable, AllocError>
+/// The image of a program, through core code, mid code and blocks.
+fn image(alloc: Global, p: &Program) -> Result<Image, AllocError>
     requires well { IsWell (program p.now) }
     requires within { IsWithin (program p.now) }
-    ensures built { IfOk result (λ x. IsBuilt (program p.now) (loaded x)) }
-    ensures store { IfOk result (λ x. length x.store.items ≤ x.store_size) }
+    requires lists { CanList (program p.now) p.now.paths.items }
+    ensures { IfOk result (IsImageOf (program p.now) p.now.paths.items) }
 {
     let core = pass_context(alloc, p)?;
     let mid = lower(alloc, &core)?;
-    let made = image(alloc, &mid)?;
-    Ok(Executable {
-        text: made.text,
-        store_size: mid.store_size,
-        store: mid.store,
-        sites: made.sites,
-        calls: made.calls,
-    })
+    let blocks = emit(alloc, &mid)?;
+    let paths = bytes_of(alloc, &p.paths)?;
+    let store = Store {
+        bytes: mid.store,
+        size: mid.store_size,
+    };
+    Ok(link(alloc, &blocks, paths, store)?)
 }
 
-#[cfg(test)]
-mod tests {
-    use super::*;
-    use odc_text::place::FileId;
-    use odc_typed::tree::Procedure;
-    use std::test::Fail;
-
-    // The start has ten instructions, the entry of a procedure seventeen, its stack check among them;
-    // then the answer 0 takes sixteen, and the return thirteen.
-    #[test]
-    fn an_empty_main_is_fifty_six_instructions(rt: HostRuntime) -> Result<(), Fail> {
-        let alloc = rt.alloc();
-        let at = Place {
-            file: FileId { number: 0 },
-            line: 3,
-            column: 9,
-        };
-        let main = Procedure {
-            name: String::from_str(alloc, "main.main")?,
-            at,
-            parameters: Vec::new(alloc),
-            results: Vec::new(alloc),
-            locals: Vec::new(alloc),
-            body: Vec::new(alloc),
-        };
-        let p = Program {
-            procedures: vec![in alloc; main]?,
-            main: 0,
-            paths: Vec::new(alloc),
-        };
-        let x = compile(alloc, &p)?;
-        assert_eq!(rt; x.text.len(), 4 * 56);
-        assert!(rt; x.text.starts_with(b"\x13\x01\x10\x00\x13\x11\xf1\x01"));
-        assert!(rt; x.store.is_empty());
-        assert!(rt; x.calls.is_empty());
-        let [(check, place)] = x.sites.as_slice() else {
-            return Err(Fail::from("not one site"));
-        };
-        assert!(rt; matches!(*check, Check::Stack));
-        assert_eq!(rt; place.line, 3);
-        assert_eq!(rt; place.column, 9);
-        Ok(())
-    }
+/// The bytes of the ELF-64 file of a program. They denote an image whose run on the machine keeps the source run
+/// on every input of bytes, and follows it: addresses of the source are read by their places, procedures by their
+/// first instructions. The image lists the program's paths and procedures, each in the program's order. Fails only
+/// where memory is out.
+pub fn compile(alloc: Global, p: &Program) -> Result<Vec<u8>, AllocError>
+    requires well { IsWell (program p.now) }
+    requires within { IsWithin (program p.now) }
+    requires lists { CanList (program p.now) p.now.paths.items }
+    ensures built { IfOk result (λ bytes. IsBuilt (program p.now) p.now.paths.items bytes.items) }
+    ensures made { IfOk result (λ bytes. IsMade (program p.now) bytes.items) }
+{
+    let image = image(alloc, p)?;
+    Ok(write_elf(alloc, &image)?)
 }

@@ -128,7 +128,7 @@ pub fn read_program(alloc: Global, text: &[u8]) -> Result<Option<Program>, Alloc
     ensures exact { IfOk result (λ o. MatchOption o
         ((tree : Tree) → ¬ Spells text.now tree)
         (λ p. (tree : Tree) × Spells text.now tree × (program p ≡ typed tree))) }
-    ensures paths { IfOk result (λ o. MatchOption o (Unit {0}) (λ p. length p.paths.items ≡ 1)) }
+    ensures paths { IfOk result (λ o. MatchOption o (Unit {0}) (λ p. p.paths.items ≡ codes "main.odin" ∷ [])) }
 {
     if text.len() > LIMIT {
         return Ok(None);

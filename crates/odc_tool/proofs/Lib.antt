@@ -1,10 +1,12 @@
-pub mod GatherLemmas
-pub mod NameLemmas
-pub mod OneVerdict
-pub mod OrderLemmas
-pub mod VerdictLemmas
-pub mod WordLemmas
-pub mod TellingLemmas
-pub mod NeverStrays
-pub mod Answering
-pub mod WithinLemmas
+mod NameLemmas
+mod OrderLemmas
+mod VerdictLemmas
+mod OneVerdict
+mod GatherLemmas
+mod WithinLemmas
+mod FileLemmas
+mod WordLemmas
+mod TellingLemmas
+mod NeverStrays
+mod Answering
+mod Asking

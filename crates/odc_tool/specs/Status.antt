@@ -28,32 +28,43 @@ number_of (TurnsOut turns) = 12
 abbrev pub newline : List ℕ
 newline = 10 ∷ []
 
--- `PATH:LINE:COLUMN: ` and what follows
-abbrev pub placed : Place → List ℕ → List ℕ → List ℕ
-placed at path rest = path ++ (codes ":" ++ (decimal at.line ++ (codes ":" ++ (decimal at.column ++ (codes ": " ++ rest)))))
+-- `:LINE:COLUMN: ` and what follows
+abbrev pub placed : Place → List ℕ → List ℕ
+placed at rest = codes ":" ++ (decimal at.line ++ (codes ":" ++ (decimal at.column ++ (codes ": " ++ rest))))
 
-abbrev pub refused_line_of : Fault → List ℕ → List ℕ
-refused_line_of fault path = placed fault.at path (name_of fault.code ++ (codes " " ++ (text_of fault.code ++ newline)))
+abbrev pub refused_text_of : Fault → List ℕ
+refused_text_of fault = placed fault.at (name_of fault.code ++ (codes " " ++ (text_of fault.code ++ newline)))
 
-abbrev pub stopped_line_of : Check → Place → List ℕ → List ℕ
-stopped_line_of check at path = placed at path (codes "stopped: " ++ (check_name check ++ newline))
+abbrev pub stopped_text_of : Check → Place → List ℕ
+stopped_text_of check at = placed at (codes "stopped: " ++ (check_name check ++ newline))
 
-abbrev pub strayed_line_of : Place → List ℕ → List ℕ
-strayed_line_of at path = placed at path (codes "strayed" ++ newline)
+abbrev pub strayed_text_of : Place → List ℕ
+strayed_text_of at = placed at (codes "strayed" ++ newline)
+
+-- the path of the place's file, where the status has a place
+abbrev pub path_of : Status → List ℕ → List ℕ
+path_of (Refused fault) path = path
+path_of (Stopped check at) path = path
+path_of (Strayed at) path = path
+path_of status path = []
+
+-- what stands behind it, given the word that fits no command
+abbrev pub text_behind : Status → List ℕ → List ℕ
+text_behind Done word = []
+text_behind (Exited code) word = []
+text_behind (Refused fault) word = refused_text_of fault
+text_behind (Usage index) word = codes "odin_rv: bad word " ++ (word ++ newline)
+text_behind (Stopped check at) word = stopped_text_of check at
+text_behind (StepsOut steps) word = codes "odin_rv: stopped after " ++ (decimal steps ++ (codes " steps" ++ newline))
+text_behind (Trapped pc) word = codes "odin_rv: trap at 0x" ++ (digits 16 false pc ++ newline)
+text_behind (Strayed at) word = strayed_text_of at
+text_behind (BadImage rule offset) word = codes "odin_rv: bad image, rule " ++ (decimal rule ++ (codes " at " ++ (decimal offset ++ newline)))
+text_behind FolderFault word = codes "odin_rv: folder fault" ++ newline
+text_behind ReadFault word = codes "odin_rv: read fault" ++ newline
+text_behind WriteFault word = codes "odin_rv: write fault" ++ newline
+text_behind Memory word = codes "odin_rv: no memory" ++ newline
+text_behind (TurnsOut turns) word = codes "odin_rv: stopped after " ++ (decimal turns ++ (codes " turns" ++ newline))
 
 -- the line of a status, given the path of its place's file and the word that fits no command
 abbrev pub line_of : Status → List ℕ → List ℕ → List ℕ
-line_of Done path word = []
-line_of (Exited code) path word = []
-line_of (Refused fault) path word = refused_line_of fault path
-line_of (Usage index) path word = codes "odin_rv: bad word " ++ (word ++ newline)
-line_of (Stopped check at) path word = stopped_line_of check at path
-line_of (StepsOut steps) path word = codes "odin_rv: stopped after " ++ (decimal steps ++ (codes " steps" ++ newline))
-line_of (Trapped pc) path word = codes "odin_rv: trap at 0x" ++ (digits 16 false pc ++ newline)
-line_of (Strayed at) path word = strayed_line_of at path
-line_of (BadImage rule offset) path word = codes "odin_rv: bad image, rule " ++ (decimal rule ++ (codes " at " ++ (decimal offset ++ newline)))
-line_of FolderFault path word = codes "odin_rv: folder fault" ++ newline
-line_of ReadFault path word = codes "odin_rv: read fault" ++ newline
-line_of WriteFault path word = codes "odin_rv: write fault" ++ newline
-line_of Memory path word = codes "odin_rv: no memory" ++ newline
-line_of (TurnsOut turns) path word = codes "odin_rv: stopped after " ++ (decimal turns ++ (codes " turns" ++ newline))
+line_of status path word = path_of status path ++ text_behind status word

@@ -7,6 +7,4 @@
 pub mod folder;
 pub mod run;
 pub mod status;
-#[cfg(test)]
-mod tests;
 pub mod words;

