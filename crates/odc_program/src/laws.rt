@@ -511,11 +511,13 @@ pub fn declared_late()
 {}
 
 /// The rows of a small table of types: sizes, offsets and names, and what distinct types stand for.
+#[tactic(auto, unfolding(odc_types::specs::Layout::fields_of))]
 pub fn rows_of_a_table()
     ensures { rows_of tables.bytes_of tables.nodes ≡ tables.rows }
 {}
 
 /// A program over the rows of a table is well.
+#[tactic(auto, unfolding(odc_types::specs::Layout::fields_of))]
 pub fn rows_are_well()
     ensures { well tables.over_rows ≡ true }
 {}
