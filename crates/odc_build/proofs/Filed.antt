@@ -18,7 +18,7 @@ use Rattle.rv_emit.specs.Encoded.{IsEncoded}
 use Rattle.rv_emit.specs.Emitted.{IsEmitted}
 use Rattle.rv_emit.specs.Blocks.{Block, Unlinked, block_of, blocks_of, bare_code, linked_code, all_sites, all_calls}
 use Rattle.rv_emit.proofs.Placed.{block_long}
-use Rattle.rv_emit.proofs.Begin.{length_encoded}
+use Rattle.rv_emit.proofs.simulation.Begin.{length_encoded}
 use Rattle.rv_emit.proofs.Blocks.{emitted}
 use Rattle.rv_emit.proofs.Linking.{linked_is, told_is, called_is}
 use Rattle.rv_sites.specs.Sections.{Listing, IsShortText, IsListing}
