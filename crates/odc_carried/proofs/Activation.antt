@@ -1,39 +1,38 @@
 -- An activation of a procedure.
-use Rattle.std.proofs.Common.{◌≡◌, ℕ, zero, suc, ◌+◌, ◌-◌, ◌*◌, ◌^◌, ◌<◌, ◌≤◌, ◌⊎◌, inl, inr, Bool, true, false, List, [], ◌∷◌, ◌++◌, length, map, arith, ap, ◌∙◌, sym, subst, refl, lit<, lit≤}
-use Rattle.std.specs.Prelude.{Option, Some, None, ◌==◌, ◌&&◌, slice_get, if◌then◌else◌}
+use Rattle.std.proofs.Common.{◌≡◌, ℕ, zero, suc, ◌+◌, ◌*◌, ◌<◌, ◌≤◌, inl, inr, Bool, false, List, [], ◌∷◌, ◌++◌, length, map, arith, ap, ◌∙◌, sym, subst, refl, lit≤}
+use Rattle.std.specs.Prelude.{Option, Some, None, slice_get, if◌then◌else◌}
 use Rattle.std.proofs.lemmas.Bool.Decides.{nat_tests}
 use Rattle.std.proofs.lemmas.List.{append-nil}
 use Rattle.std.proofs.Math.Nat.{add-zero}
-use Rattle.odc_text.specs.declared.place.Place.{Place}
-use Rattle.odc_program.specs.States.Bytes.{Block, variable, to, Value, zeros}
+use Rattle.odc_program.specs.States.Bytes.{Block, to, Value, zeros}
 use Rattle.odc_program.specs.States.Memory.{Memory, load, open_block, close}
-use Rattle.odc_program.specs.States.Run.{Res, ok, stop, then_by, pure, moved}
+use Rattle.odc_program.specs.States.Run.{Res, ok, stop, then_by, moved}
 use Rattle.odc_program.specs.States.State.{State, Leave, Do, Calls, Context, known, read_at, begin_block, local_in}
 use Rattle.odc_program.specs.Kinds.Places.{as_read}
-use Rattle.odc_program.specs.Runs.Statements.{Left, left_by, Part, after_falls, scoped}
+use Rattle.odc_program.specs.Runs.Statements.{Left, left_by, Part, scoped}
 use Rattle.odc_program.specs.Runs.Statements.{Flow as LeftFlow, falls as left_falls, breaks, continues, passes, returns}
-use Rattle.odc_program.specs.Runs.Source.{execs, begin_parameters, begin_results, answers, end_activation, activation, body_run}
-use Rattle.odc_program.specs.Trees.Program.{Shape, whole, Local, Head, Body, Tables}
+use Rattle.odc_program.specs.Runs.Source.{begin_parameters, begin_results, answers, end_activation, activation}
+use Rattle.odc_program.specs.Trees.Program.{Shape, whole, Local}
 use Rattle.odc_core.specs.declared.tree.Variable.{Variable}
-use Rattle.odc_core.specs.Tree.{const as word, answer as answered, Stmts, finish, follow}
+use Rattle.odc_core.specs.Tree.{const as word, answer as answered, Stmts}
 use Rattle.odc_core.specs.Words.{bytes_of}
 use Rattle.odc_core.specs.Memory.{put, forgotten, lies}
 use Rattle.odc_core.specs.Memory.{Memory as Flat}
-use Rattle.odc_core.specs.Frames.{with_arguments, entered}
+use Rattle.odc_core.specs.Frames.{with_arguments}
 use Rattle.odc_core.specs.Run.{Flow, falls, leaves, answers as gives, after, answered as word_of, pure as core_pure, ◌>>=◌}
 use Rattle.odc_core.specs.Run.{Res as CoreRes, then_by as onto}
-use Rattle.odc_carried.specs.Carried.{type_in, is_int, refused_stmts}
-use Rattle.odc_carried.specs.Code.{join, one, put as set, variable_of, own_variables, variables_of, locals_of, result_code, begin_code, body_code, stmts_code, stmts_depth}
-use Rattle.odc_carried.specs.Places.{place_of, byte_at, bytes_at}
-use Rattle.odc_carried.specs.Tied.{Tied, IsTied, size_of, Site, o, env, cenv}
-use Rattle.odc_carried.proofs.Runs.{Face, at, with_memory, Fueled, Runs, runs_pure}
-use Rattle.odc_carried.proofs.Sims.{rate, Told, Sim, Arrives, Leads, sim_leads, seq, sim_runs, sim_first, sim_act, sim_later, sim_richer, sim_result, sim_weaker, then_then, onto_onto}
+use Rattle.odc_carried.specs.Carried.{type_in}
+use Rattle.odc_carried.specs.Code.{join, one, put as set, variable_of, own_variables, variables_of, result_code, begin_code}
+use Rattle.odc_carried.specs.Places.{place_of, byte_at}
+use Rattle.odc_carried.specs.Tied.{size_of, Site, o, env, cenv}
+use Rattle.odc_carried.proofs.Runs.{Face, at, with_memory, Fueled, runs_pure}
+use Rattle.odc_carried.proofs.Sims.{rate, Told, Sim, sim_leads, seq, sim_runs, sim_first, sim_act, sim_later, sim_richer, sim_result, sim_weaker, then_then, onto_onto}
 use Rattle.odc_carried.proofs.Values.{Val}
-use Rattle.odc_carried.proofs.Ties.{Facts, at_self, Floor, Now, block, block_found, local_found}
+use Rattle.odc_carried.proofs.Ties.{Facts, at_self, Now, block, block_found, local_found}
 use Rattle.odc_carried.proofs.Writes.{name, now_open}
-use Rattle.odc_carried.proofs.Frame.{put_away, exec_join, local_variable, ev, ex1, ex, r_set, r_const}
-use Rattle.odc_carried.proofs.Quiet.{costing, IntType, int_type}
-use Rattle.odc_carried.proofs.Codes.{Ready, ready_cost}
+use Rattle.odc_carried.proofs.Frame.{put_away, exec_join, local_variable, ex1, ex, r_set, r_const}
+use Rattle.odc_carried.proofs.Quiet.{costing}
+use Rattle.odc_carried.proofs.Codes.{Ready}
 use Rattle.odc_carried.proofs.Arguments.{AreVals}
 use Rattle.odc_carried.proofs.Stmts.{IntLocal, Results, AreLeft, Gave, Done, sane_of}
 use Rattle.odc_carried.proofs.Simple.{answer_any}
@@ -199,7 +198,7 @@ module _ (S : Site) (F : Facts S) where
           subst P (sym x.is) (answers_sim j h0 x.word u' h' x.gave x.ready x.above))
 
       rest_sim : (j : ℕ) (t : State) (h : Face) → Ready S F t h → Sim S.entries (Returned h) j 4 0 (rest_act (join code end)) t h (then_by (scoped body c t) (λ l. ending))
-      unfolding rest_act behind_act
+      unfolding behind_act
       rest_sim j t h ready =
           sim_result S.entries (then_then S.entries (body c t) (λ l. left_by l.flow c) (λ l. ending))
           (sim_act S.entries (Returned h) j 4 0 (λ n. ex S code n >>= (λ flow. behind_act flow n)) (rest_act (join code end))
@@ -226,7 +225,6 @@ module _ (S : Site) (F : Facts S) where
       begun_run n t = then_by (begin_results (env S c) S.proc.parameters n t) (λ _. (λ u. then_by (scoped body c u) (λ l. ending)))
 
       begin_sim : (j : ℕ) (t : State) (h : Face) → Now S t.memory t.serial h.memory → S.serial < t.serial → t.left ≤ S.fuel → Told S.entries t h → Sim S.entries (Returned h) j 8 0 (begin_act S.proc.results) t h (begun_run S.proc.results t)
-      unfolding begin_act rest_act
       begin_sim j t h now newer few told = by S.proc.results refl
         where
           by : (n : ℕ) → S.proc.results ≡ n → Sim S.entries (Returned h) j 8 0 (begin_act S.proc.results) t h (begun_run S.proc.results t)

@@ -1,6 +1,6 @@
 -- Arguments, and the call behind them.
-use Rattle.std.proofs.Common.{◌≡◌, ℕ, zero, suc, ◌+◌, ◌*◌, ◌^◌, ◌<◌, ◌≤◌, ◌⊎◌, inl, inr, Bool, true, false, List, [], ◌∷◌, length, map, arith, ap, ◌∙◌, sym, subst, refl, lit<, lit≤}
-use Rattle.std.specs.Prelude.{Option, Some, None, slice_get, ◌==◌, if◌then◌else◌}
+use Rattle.std.proofs.Common.{◌≡◌, ℕ, suc, ◌+◌, ◌*◌, ◌<◌, ◌≤◌, ◌⊎◌, inl, inr, true, List, [], ◌∷◌, length, arith, ap, ◌∙◌, sym, subst, refl, lit≤}
+use Rattle.std.specs.Prelude.{None, slice_get}
 use Rattle.odc_text.specs.declared.place.Place.{Place}
 use Rattle.odc_text.specs.Run.{strayed}
 use Rattle.odc_program.specs.States.Bytes.{Value}
@@ -8,16 +8,16 @@ use Rattle.odc_program.specs.States.Run.{Res, ok, stop, then_by}
 use Rattle.odc_program.specs.States.State.{State, Leave, ends, Do, Context}
 use Rattle.odc_core.specs.Tree.{Expr as CoreExpr, Exprs, none, more, call as called, slot as place, Stmts, finish, follow}
 use Rattle.odc_core.specs.Words.{bytes_of}
-use Rattle.odc_core.specs.Memory.{put, all_in}
+use Rattle.odc_core.specs.Memory.{all_in}
 use Rattle.odc_core.specs.Frames.{touched_in}
 use Rattle.odc_core.specs.Run.{Flow, falls, after, pure, spend, ◌>>=◌, values_of, calls_of, store_bytes}
 use Rattle.odc_carried.specs.Carried.{takes}
 use Rattle.odc_carried.specs.Code.{join, one, waits, wait, wait_at, wait_variable, variables_of}
 use Rattle.odc_carried.specs.Tied.{Tied, Site, o, cenv}
-use Rattle.odc_carried.proofs.Runs.{Face, with_memory, Fueled, Runs, runs_pure, runs_as, runs_then, runs_spend, runs_store}
-use Rattle.odc_carried.proofs.Sims.{rate, Told, Sim, seq, sim_first, sim_behind, sim_later, sim_richer, sim_result, sim_act, then_then}
+use Rattle.odc_carried.proofs.Runs.{Face, Fueled, Runs, runs_pure, runs_then, runs_spend, runs_store}
+use Rattle.odc_carried.proofs.Sims.{rate, Sim, seq, sim_first, sim_behind, sim_later, sim_richer, sim_result, then_then}
 use Rattle.odc_carried.proofs.Values.{Val}
-use Rattle.odc_carried.proofs.Ties.{Facts, below_own}
+use Rattle.odc_carried.proofs.Ties.{Facts}
 use Rattle.odc_carried.proofs.Frame.{WordAt, ev, ex1, ex, r_slot, wait_found, part_touched}
 use Rattle.odc_carried.proofs.Quiet.{Quiet, costing, Evaluated}
 use Rattle.odc_carried.proofs.Codes.{join_assoc, Ready, Alike, alike_same, alike_on, ready_cost, waited, slot, waited_ready, waited_alike, waited_there, quiet_waits, still_waits, step_wait, rejoin, Codes}

@@ -1,39 +1,38 @@
 -- The code of statements does what the source does with them.
-use Rattle.std.proofs.Common.{◌≡◌, ℕ, zero, suc, ◌+◌, ◌-◌, ◌*◌, ◌^◌, ◌<◌, ◌≤◌, ◌⊎◌, inl, inr, Bool, true, false, List, [], ◌∷◌, length, map, arith, ap, ◌∙◌, sym, subst, refl, lit<, lit≤}
-use Rattle.std.specs.Prelude.{Option, Some, None, ◌==◌, ◌&&◌, ◌||◌, max, slice_get, if◌then◌else◌}
+use Rattle.std.proofs.Common.{◌≡◌, ℕ, ◌+◌, ◌-◌, ◌*◌, ◌≤◌, inr, Bool, true, false, List, [], ◌∷◌, arith, ap, ◌∙◌, subst, refl, lit≤}
+use Rattle.std.specs.Prelude.{Option, Some, None, ◌==◌, ◌&&◌, ◌||◌, max, slice_get}
 use Rattle.std.proofs.lemmas.Bool.Decides.{nat_tests}
 use Rattle.odc_text.specs.declared.place.Place.{Place}
 use Rattle.odc_program.specs.declared.ops.Builtin.TheVariants as b
 use Rattle.odc_program.specs.States.Bytes.{Value}
-use Rattle.odc_program.specs.States.Run.{Res, ok, stop, then_by, pure}
-use Rattle.odc_program.specs.States.State.{State, Leave, Do, Calls, Context, Base, is, in_context_of}
-use Rattle.odc_program.specs.Kinds.Places.{value_in, read_truth, as_read}
+use Rattle.odc_program.specs.States.Run.{Res, ok, then_by, pure}
+use Rattle.odc_program.specs.States.State.{State, Leave, Do, Calls, Context, Base, is}
+use Rattle.odc_program.specs.Kinds.Places.{value_in, as_read}
 use Rattle.odc_program.specs.Kinds.Calling.{handed}
 use Rattle.odc_program.specs.Kinds.Expressions.{value_of, values_of, truth_of}
-use Rattle.odc_program.specs.Runs.Statements.{Left, left_by, Part, run_eval, stepped, caught, caught_by, after_falls, scoped, labelled, headed, choose, seen}
-use Rattle.odc_program.specs.Runs.Statements.{Flow as LeftFlow, falls as left_falls, returns}
+use Rattle.odc_program.specs.Runs.Statements.{Left, left_by, Part, run_eval, stepped, caught, scoped, choose, seen}
+use Rattle.odc_program.specs.Runs.Statements.{falls as left_falls, returns}
 use Rattle.odc_program.specs.Runs.Statements.{turns as source_turns}
-use Rattle.odc_program.specs.Runs.Source.{exec, form_of, execs, maybe, later, later_form, condition_of}
-use Rattle.odc_program.specs.Trees.Tree.{Expr, expr, Kind, call, builtin, local, Exprs, none, more, Maybe, absent, present, Lefts, no_lefts, left_, Rights, nothing, each, parted, Stmt, stmt, Form, declare, assign, eval, block, if_, loop, return, MaybeStmt, no_stmt, some_stmt, Stmts, finish, follow, at_of, defer}
+use Rattle.odc_program.specs.Runs.Source.{exec, form_of, execs, maybe, later_form, condition_of}
+use Rattle.odc_program.specs.Trees.Tree.{Expr, expr, call, builtin, local, Exprs, none, more, Maybe, absent, present, no_lefts, left_, nothing, each, Stmt, stmt, Form, declare, assign, eval, block, if_, loop, return, MaybeStmt, no_stmt, some_stmt, Stmts, finish, follow, at_of, defer}
 use Rattle.odc_program.specs.Trees.Program.{Shape, several}
 use Rattle.odc_core.specs.Tree.{Stmts as CoreStmts, finish as done, follow as next, repeat, choose as branch, answer as answered}
-use Rattle.odc_core.specs.Run.{Flow, falls, after, turns, pure as core_pure, spend, ◌>>=◌}
-use Rattle.odc_core.specs.Run.{State as CoreState, Res as CoreRes, then_by as onto}
-use Rattle.odc_carried.specs.Carried.{type_in, is_int, is_nothing, is_empty_shape, names_int, refused_int, refused_ints, refused_truth, refused_alone, refused_eval, refused_declared, refused_assigned, refused_return, refused_condition, refused_stmt, refused_form, refused_maybe, refused_stmts, unless, and_then, in_place, can_call, needed, count, takes}
-use Rattle.odc_carried.specs.Code.{join, one, before, before_kind, befores, value, depth, depths, values, waits_all, line_code, put_code, declare_code, assign_code, return_code, result_code, eval_code, eval_depth, condition_before, condition_value, turn_code, stmt_code, form_code, maybe_code, stmts_code, stmt_depth, form_depth, maybe_depth, stmts_depth, condition_depth}
-use Rattle.odc_carried.specs.Tied.{Site, o, env, cenv}
-use Rattle.odc_carried.proofs.Runs.{Face, Runs, runs_pure, runs_spend}
-use Rattle.odc_carried.proofs.Sims.{rate, Told, Sim, sim_runs, sim_act, sim_behind, sim_later, sim_richer, sim_result, sim_weaker, then_then}
+use Rattle.odc_core.specs.Run.{Flow, falls, turns, pure as core_pure, spend}
+use Rattle.odc_carried.specs.Carried.{type_in, is_int, is_nothing, is_empty_shape, names_int, refused_int, refused_ints, refused_truth, refused_eval, refused_condition, refused_stmt, refused_form, refused_maybe, refused_stmts, and_then, can_call, needed, count, takes}
+use Rattle.odc_carried.specs.Code.{join, one, before, before_kind, befores, value, depths, values, waits_all, line_code, put_code, result_code, eval_code, eval_depth, condition_before, condition_value, turn_code, stmt_code, form_code, maybe_code, stmts_code, stmt_depth, form_depth, maybe_depth, stmts_depth, condition_depth}
+use Rattle.odc_carried.specs.Tied.{Site, o, env}
+use Rattle.odc_carried.proofs.Runs.{Face, runs_pure, runs_spend}
+use Rattle.odc_carried.proofs.Sims.{rate, Sim, sim_runs, sim_act, sim_behind, sim_later, sim_richer, sim_result, sim_weaker}
 use Rattle.odc_carried.proofs.Values.{Val}
 use Rattle.odc_carried.proofs.Ties.{Facts}
-use Rattle.odc_carried.proofs.Frame.{ev, ex1, ex}
-use Rattle.odc_carried.proofs.Quiet.{costing, IntType, int_type, and_true, IsTruth}
+use Rattle.odc_carried.proofs.Frame.{ex}
+use Rattle.odc_carried.proofs.Quiet.{costing, int_type, and_true}
 use Rattle.odc_carried.proofs.Evals.{passed, passed_both, assoc3, int_read}
-use Rattle.odc_carried.proofs.Codes.{Ready, Alike, ready_cost, Codes}
-use Rattle.odc_carried.proofs.Arguments.{CodesAll, CallsFollow, call_step}
+use Rattle.odc_carried.proofs.Codes.{Ready, ready_cost}
+use Rattle.odc_carried.proofs.Arguments.{CallsFollow, call_step}
 use Rattle.odc_carried.proofs.Exprs.{then_same, code_int, code_ints, code_truth}
-use Rattle.odc_carried.proofs.Stmts.{IntLocal, int_local, Results, Done}
-use Rattle.odc_carried.proofs.Simple.{declare_sim, zero_sim, assign_sim, answer_sim, return_sim, above_alike}
+use Rattle.odc_carried.proofs.Stmts.{int_local, Results, Done}
+use Rattle.odc_carried.proofs.Simple.{declare_sim, zero_sim, assign_sim, answer_sim, return_sim}
 use Rattle.odc_carried.proofs.Lists.{one_sim, done_on, join_sim, caught_sim, scoped_sim, labelled_sim, headed_sim, choice_sim}
 use Rattle.odc_carried.proofs.Turns.{rest_of}
 use Rattle.odc_carried.proofs.Loops.{Above, Cond, cond_absent, cond_present, loop_sim}

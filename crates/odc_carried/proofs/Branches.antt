@@ -1,6 +1,6 @@
 -- One operand, and operands that are evaluated only where they are needed.
-use Rattle.std.proofs.Common.{◌≡◌, ℕ, zero, suc, ◌+◌, ◌*◌, ◌^◌, ◌<◌, ◌≤◌, ◌⊎◌, inl, inr, Bool, true, false, List, [], ◌∷◌, length, map, arith, ap, ◌∙◌, sym, subst, refl, lit<, lit≤}
-use Rattle.std.specs.Prelude.{ℤ, Option, Some, None, slice_get, ◌==◌, not, if◌then◌else◌}
+use Rattle.std.proofs.Common.{◌≡◌, ℕ, ◌+◌, ◌*◌, ◌^◌, ◌<◌, ◌≤◌, ◌⊎◌, inl, inr, Bool, true, false, arith, ap, ◌∙◌, sym, subst, refl, lit≤}
+use Rattle.std.specs.Prelude.{◌==◌, if◌then◌else◌}
 use Rattle.odc_text.specs.declared.place.Place.{Place}
 use Rattle.odc_text.specs.Run.{strayed}
 use Rattle.rv_table.specs.Words.{flag}
@@ -8,19 +8,17 @@ use Rattle.odc_program.specs.States.Bytes.{Value, truth_bytes}
 use Rattle.odc_program.specs.States.Run.{Res, ok, stop, then_by}
 use Rattle.odc_program.specs.States.State.{State, Leave, ends, Do, Base}
 use Rattle.odc_program.specs.Kinds.Places.{read_truth}
-use Rattle.odc_core.specs.Tree.{Expr as CoreExpr, const as word, choose as branch, Stmt, Stmts, finish, follow}
-use Rattle.odc_core.specs.Words.{bytes_of}
+use Rattle.odc_core.specs.Tree.{Expr as CoreExpr, const as word, choose as branch, Stmts, finish, follow}
 use Rattle.odc_core.specs.Run.{Flow, falls, after, pure, spend, ◌>>=◌}
 use Rattle.odc_carried.specs.Code.{join, one, waits, wait}
-use Rattle.odc_carried.specs.Tied.{Site, o, cenv}
-use Rattle.odc_carried.proofs.Runs.{Face, Fueled, Runs, runs_pure, runs_spend}
-use Rattle.odc_carried.proofs.Sims.{rate, Told, Sim, seq, sim_runs, sim_first, sim_behind, sim_later, sim_richer, sim_result, then_then, sim_act}
+use Rattle.odc_carried.specs.Tied.{Site, o}
+use Rattle.odc_carried.proofs.Runs.{Face, runs_pure, runs_spend}
+use Rattle.odc_carried.proofs.Sims.{rate, Sim, seq, sim_runs, sim_first, sim_behind, sim_later, sim_richer, sim_result, then_then}
 use Rattle.odc_carried.proofs.Ties.{Facts}
 use Rattle.odc_carried.proofs.Frame.{WordAt, ev, ex1, ex}
 use Rattle.odc_carried.proofs.Quiet.{Quiet, quiet_const, quiet_as, flag_small, costing, IsTruth}
-use Rattle.odc_carried.proofs.Evals.{assoc3}
 use Rattle.odc_carried.proofs.Loud.{assoc4}
-use Rattle.odc_carried.proofs.Codes.{join_assoc, Ready, Alike, alike_same, alike_on, ready_cost, waited, slot, waited_ready, waited_alike, waited_there, quiet_waits, still_waits, step_wait, rejoin, Codes}
+use Rattle.odc_carried.proofs.Codes.{join_assoc, Ready, Alike, alike_same, alike_on, ready_cost, waited, slot, waited_ready, waited_alike, waited_there, quiet_waits, step_wait, rejoin, Codes}
 
 -- what an operator makes of one operand
 pub record One (S : Site) (Is' : Value → ℕ → Type 0) (code : CoreExpr → CoreExpr) (q : ℕ) (w : ℕ) (u : State) (r : Res Leave State Value) : Type 0 where

@@ -1,5 +1,5 @@
 -- Calls, by the fuel of the source.
-use Rattle.std.proofs.Common.{◌≡◌, ℕ, zero, suc, ◌+◌, ◌-◌, ◌*◌, ◌^◌, ◌<◌, ◌≤◌, ◌⊎◌, inl, inr, Bool, true, false, List, [], ◌∷◌, length, map, take, arith, ap, ◌∙◌, sym, subst, refl, lit<, lit≤}
+use Rattle.std.proofs.Common.{◌≡◌, ℕ, zero, suc, ◌+◌, ◌-◌, ◌*◌, ◌^◌, ◌<◌, ◌≤◌, Bool, true, false, List, [], ◌∷◌, length, take, arith, ap, ◌∙◌, sym, subst, refl, lit≤}
 use Rattle.std.specs.Prelude.{Option, Some, None, ◌==◌, ◌&&◌, nat_le, slice_get, if◌then◌else◌}
 use Rattle.std.proofs.lemmas.Bool.Decides.{nat_tests}
 use Rattle.std.proofs.Math.Nat.{add-zero}
@@ -7,35 +7,34 @@ use Rattle.odc_text.specs.declared.place.Place.{Place}
 use Rattle.odc_text.specs.declared.check.Check.TheVariants.{Stack}
 use Rattle.odc_text.specs.Run.{checked, going}
 use Rattle.odc_program.specs.declared.ops.Builtin.TheVariants as b
-use Rattle.odc_program.specs.States.Bytes.{Block, Value}
-use Rattle.odc_program.specs.States.Memory.{Memory, close}
-use Rattle.odc_program.specs.States.Run.{Res, ok, stop, then_by, pure}
-use Rattle.odc_program.specs.States.State.{State, Leave, ends, Do, Calls, Context, fail}
+use Rattle.odc_program.specs.States.Bytes.{Value}
+use Rattle.odc_program.specs.States.Memory.{Memory}
+use Rattle.odc_program.specs.States.Run.{Res, pure}
+use Rattle.odc_program.specs.States.State.{State, Leave, Do, Calls, Context, fail}
 use Rattle.odc_program.specs.Kinds.Expressions.{value_of}
-use Rattle.odc_program.specs.Runs.Statements.{Left, Part, run_eval}
+use Rattle.odc_program.specs.Runs.Statements.{run_eval}
 use Rattle.odc_program.specs.Runs.Source.{execs, helps, activation, numbered, fits_stack, entered, enter, call_of, env_of}
 use Rattle.odc_program.specs.Trees.Tree.{expr, builtin, Exprs}
-use Rattle.odc_program.specs.Trees.Program.{Local, Head, Helper, Body, Tables, Program}
-use Rattle.odc_core.specs.Tree.{Proc, Stmts}
+use Rattle.odc_program.specs.Trees.Program.{Local, Head, Body, Tables, Program}
+use Rattle.odc_core.specs.Tree.{Proc}
 use Rattle.odc_core.specs.Frames.{touched_in, has_room}
 use Rattle.odc_core.specs.Memory.{forgotten}
-use Rattle.odc_core.specs.Run.{World, Flow, calls_of, body_run}
+use Rattle.odc_core.specs.Run.{World, calls_of, body_run}
 use Rattle.odc_core.specs.Run.{enter as core_enter, stop as halt}
 use Rattle.odc_core.specs.Run.{Res as CoreRes}
-use Rattle.odc_carried.specs.Carried.{type_in, is_int, is_nothing, are_ints, is_head, no_helpers, refused_procedure, refused_stmts, refused_ints, takes, count, unless}
+use Rattle.odc_carried.specs.Carried.{is_int, is_nothing, are_ints, is_head, no_helpers, refused_procedure, refused_stmts, refused_ints, takes, count}
 use Rattle.odc_carried.specs.Code.{join, variables_of, waits_all, line_code, depths, stmts_code, crossed, crossed_all}
-use Rattle.odc_carried.specs.Tied.{IsLaid, HasRoom, size_of, Site, o, env}
+use Rattle.odc_carried.specs.Tied.{IsLaid, HasRoom, Site, o, env}
 use Rattle.odc_carried.proofs.Runs.{Face, at, Fueled}
-use Rattle.odc_carried.proofs.Sims.{rate, Told, Sim, Arrives, Leads, sim_act, sim_turn, sim_out, sim_later, sim_richer, sim_result, sim_weaker}
-use Rattle.odc_carried.proofs.Values.{Val}
-use Rattle.odc_carried.proofs.Ties.{Facts, Floor, Now, block, serial_of}
+use Rattle.odc_carried.proofs.Sims.{rate, Told, Sim, Arrives, Leads, sim_act, sim_turn, sim_out, sim_later, sim_richer, sim_weaker}
+use Rattle.odc_carried.proofs.Ties.{Facts, Floor, Now, block}
 use Rattle.odc_carried.proofs.Writes.{floor_below, now_back, still_live}
 use Rattle.odc_carried.proofs.Quiet.{IntType, int_type, and_true}
 use Rattle.odc_carried.proofs.Evals.{passed}
 use Rattle.odc_carried.proofs.Codes.{Ready}
 use Rattle.odc_carried.proofs.Frame.{ex}
 use Rattle.odc_carried.proofs.Arguments.{AreVals, Called, CallsFollow}
-use Rattle.odc_carried.proofs.Stmts.{IntLocal, Results, Done}
+use Rattle.odc_carried.proofs.Stmts.{Results, Done}
 use Rattle.odc_carried.proofs.Bodies.{stmts_sim}
 use Rattle.odc_carried.proofs.Activation.{now_begun, AreInts, Returned, activation_sim}
 

@@ -1,25 +1,22 @@
 -- Parts of code that end with a value: what runs before, and the expression that then gives the value, do what the source
 -- does, whatever comes behind.
-use Rattle.std.proofs.Common.{◌≡◌, ℕ, zero, suc, ◌+◌, ◌*◌, ◌^◌, ◌<◌, ◌≤◌, ◌⊎◌, inl, inr, Bool, true, false, List, [], ◌∷◌, length, map, arith, ap, ◌∙◌, sym, subst, refl, lit<, lit≤}
-use Rattle.std.specs.Prelude.{ℤ, Option, Some, None, slice_get, ◌==◌, not, if◌then◌else◌}
-use Rattle.std.specs.Int.{w64, cast_signed}
+use Rattle.std.proofs.Common.{◌≡◌, ℕ, ◌+◌, ◌*◌, ◌^◌, ◌<◌, ◌≤◌, ◌⊎◌, inl, inr, arith, ap, ◌∙◌, sym, subst, refl, lit≤}
+use Rattle.std.specs.Prelude.{Option, Some, None}
 use Rattle.odc_text.specs.declared.place.Place.{Place}
-use Rattle.odc_text.specs.Run.{strayed}
 use Rattle.odc_program.specs.States.Bytes.{Value}
-use Rattle.odc_program.specs.States.Run.{Res, ok, stop, then_by}
-use Rattle.odc_program.specs.States.State.{State, Leave, ends, Do, known, Context}
-use Rattle.odc_core.specs.Tree.{Expr as CoreExpr, Stmt, choose, Stmts, finish, follow}
+use Rattle.odc_program.specs.States.Run.{Res, then_by}
+use Rattle.odc_program.specs.States.State.{State, Leave, Do, known}
+use Rattle.odc_core.specs.Tree.{Expr as CoreExpr, Stmts, finish, follow}
 use Rattle.odc_core.specs.Words.{bytes_of}
 use Rattle.odc_core.specs.Memory.{put}
-use Rattle.odc_core.specs.Run.{Flow, falls, after, pure, spend, ◌>>=◌}
-use Rattle.odc_core.specs.Run.{Res as CoreRes, then_by as onto}
-use Rattle.odc_carried.specs.Code.{join, one, waits, wait, wait_at, wait_offset, wait_variable}
-use Rattle.odc_carried.specs.Tied.{Tied, Site, o, cenv}
-use Rattle.odc_carried.proofs.Runs.{Face, with_memory, Fueled, Runs, runs_pure, runs_spend}
-use Rattle.odc_carried.proofs.Sims.{rate, Told, Sim, Behind, sim_first, sim_behind, sim_later, sim_richer, sim_act, sim_result}
-use Rattle.odc_carried.proofs.Ties.{Facts, Now, now_alike, below_own, block}
-use Rattle.odc_carried.proofs.Frame.{WordAt, put_word, put_away, word_apart, wait_found, ev, ex1, ex, r_set}
-use Rattle.odc_carried.proofs.Quiet.{Quiet, quiet_held, costing, Gave, Went, Evaluated}
+use Rattle.odc_core.specs.Run.{Flow, falls, after}
+use Rattle.odc_carried.specs.Code.{join, waits, wait, wait_at, wait_offset, wait_variable}
+use Rattle.odc_carried.specs.Tied.{Tied, Site, o}
+use Rattle.odc_carried.proofs.Runs.{Face, with_memory, Fueled}
+use Rattle.odc_carried.proofs.Sims.{rate, Told, Sim, sim_first, sim_later, sim_richer, sim_result}
+use Rattle.odc_carried.proofs.Ties.{Facts, Now, now_alike, block}
+use Rattle.odc_carried.proofs.Frame.{WordAt, put_word, put_away, word_apart, wait_found, ex1, ex, r_set}
+use Rattle.odc_carried.proofs.Quiet.{Quiet, quiet_held, costing, Evaluated}
 
 -- ---- lists of statements
 pub join_assoc : (a b c : Stmts) → join (join a b) c ≡ join a (join b c)

@@ -1,45 +1,40 @@
 -- The integers and truth values of expressions that hold no call and no check.
-use Rattle.std.proofs.Common.{◌≡◌, ℕ, zero, suc, ◌+◌, ◌*◌, ◌%◌, ◌^◌, ◌<◌, ◌≤◌, ◌⊎◌, inl, inr, Bool, true, false, List, [], ◌∷◌, length, map, arith, ap, ◌∙◌, sym, subst, refl, lit<, lit≤}
-use Rattle.std.specs.Prelude.{ℤ, pos, ◌+ℤ◌, ◌-ℤ◌, ◌*ℤ◌, Option, Some, None, slice_get, ◌==◌, ◌&&◌, ◌||◌, not, int_lt, int_div, int_rem, if◌then◌else◌}
+use Rattle.std.proofs.Common.{◌≡◌, ℕ, ◌+◌, ◌*◌, ◌%◌, ◌^◌, ◌<◌, ◌≤◌, inl, Bool, true, false, [], ◌∷◌, map, arith, ap, ◌∙◌, sym, subst, refl, lit<, lit≤}
+use Rattle.std.specs.Prelude.{ℤ, pos, ◌+ℤ◌, ◌-ℤ◌, ◌*ℤ◌, Option, Some, None, slice_get, ◌==◌, ◌||◌, not, int_lt, int_div, int_rem}
 use Rattle.std.specs.Ordering.{int_eq}
 use Rattle.std.specs.Int.{w64, cast_signed}
-use Rattle.std.proofs.lemmas.Bool.Decides.{nat_tests}
 use Rattle.std.proofs.lemmas.List.{length-map}
-use Rattle.std.proofs.Math.Nat.{add-zero}
 use Rattle.odc_text.specs.declared.place.Place.{Place}
-use Rattle.odc_text.specs.declared.check.Check.TheVariants as check
 use Rattle.rv_table.specs.Bytes.{run}
-use Rattle.rv_table.specs.Words.{plus, minus, quotient, remainder, flag, signed_below}
-use Rattle.odc_program.specs.declared.ops.Constant.{Constant}
+use Rattle.rv_table.specs.Words.{plus, minus, quotient, remainder, flag}
 use Rattle.odc_program.specs.declared.ops.Constant.TheVariants as con
 use Rattle.odc_program.specs.declared.ops.UnaryOp.TheVariants as un
 use Rattle.odc_program.specs.declared.ops.BinaryOp.{BinaryOp}
 use Rattle.odc_program.specs.declared.ops.BinaryOp.TheVariants as op
 use Rattle.odc_program.specs.States.Bytes.{Block, to, Value, bytes_of, residue, int_bytes, int_of, truth_bytes}
 use Rattle.odc_program.specs.States.Memory.{load}
-use Rattle.odc_program.specs.States.Run.{Res, ok, stop, then_by, pure, moved}
-use Rattle.odc_program.specs.States.State.{State, Leave, Do, fail, known, read_at, Calls, Context, Base, is, local_in}
+use Rattle.odc_program.specs.States.Run.{Res, ok, stop, then_by, pure}
+use Rattle.odc_program.specs.States.State.{State, Leave, Do, known, read_at, Calls, Context, Base, is}
 use Rattle.odc_program.specs.Kinds.Places.{value_in, whole_by, as_read}
-use Rattle.odc_program.specs.Kinds.Operators.{unary_value, divided, calculate, says, compared, operate, by_shape, wholes_by}
+use Rattle.odc_program.specs.Kinds.Operators.{unary_value, calculate, says, operate, by_shape, wholes_by}
 use Rattle.odc_program.specs.Kinds.Expressions.{value_of}
 use Rattle.odc_program.specs.Trees.Tree.{Expr, expr, Kind, const, local, unary, binary, ty}
-use Rattle.odc_program.specs.Trees.Program.{Shape, whole, truth, Local, Tables}
-use Rattle.odc_core.specs.declared.tree.Variable.{Variable}
+use Rattle.odc_program.specs.Trees.Program.{Shape, whole, truth, Local}
 use Rattle.odc_core.specs.declared.tree.BinaryOp.TheVariants.{Add, Subtract, Multiply, Divide, Remainder}
 use Rattle.odc_core.specs.declared.tree.Comparison.TheVariants.{Equal, Different, Less}
 use Rattle.odc_core.specs.declared.tree.BinaryOp.{BinaryOp as CoreOp}
 use Rattle.odc_core.specs.Tree.{Expr as CoreExpr, const as word, binary as operated, compare}
-use Rattle.odc_core.specs.Words.{number_of as word_of, bytes_of as numbers_of, binary_word}
+use Rattle.odc_core.specs.Words.{number_of as word_of, binary_word}
 use Rattle.odc_carried.specs.Carried.{type_in, is_int, names_int, is_int_local, refused_int, refused_truth, unless, and_then, is_loud, is_loud_kind, is_divisor, checks, refused_kind, refused_test, truth_binary, is_plain, is_quotient, is_comparison, is_connective, is_bool}
-use Rattle.odc_carried.specs.Code.{Way, nested, way_by, value_by, value, value_kind, binary_code, variable_of, held, negated}
+use Rattle.odc_carried.specs.Code.{Way, nested, way_by, value_by, value, value_kind, variable_of, held, negated}
 use Rattle.odc_carried.specs.Places.{place_of, bytes_at}
 use Rattle.odc_carried.specs.Tied.{Tied, size_of, Site, o, env}
 use Rattle.odc_carried.proofs.Runs.{Face}
 use Rattle.odc_carried.proofs.Sims.{then_then}
-use Rattle.odc_carried.proofs.Values.{Val, AreBytes, eight_bytes, val_int, val_word, residue_small, added, subtracted, multiplied, divided_word, rest_word, behind_is, not_twice, quotient_small, remainder_small, equal_test, zero_test}
-use Rattle.odc_carried.proofs.Ties.{Now, Own, Loaded, loaded_from, local_found, block, AreSane}
+use Rattle.odc_carried.proofs.Values.{Val, AreBytes, eight_bytes, val_int, val_word, residue_small, added, subtracted, multiplied, divided_word, rest_word, behind_is, not_twice, quotient_small, remainder_small, equal_test}
+use Rattle.odc_carried.proofs.Ties.{Loaded, loaded_from, local_found, block, AreSane}
 use Rattle.odc_carried.proofs.Frame.{WordAt, local_variable}
-use Rattle.odc_carried.proofs.Quiet.{Quiet, quiet_const, quiet_held, quiet_binary, quiet_compare, quiet_not, quiet_less, quiet_as, flag_small, costing, worded, some_divisor, IsDivisor, IsTruth, Gave, Went, Evaluated, evaluated_as, evaluated_then, evaluated_known, IntType, BoolType, int_type, bool_type, and_true, or_false}
+use Rattle.odc_carried.proofs.Quiet.{Quiet, quiet_const, quiet_held, quiet_binary, quiet_compare, quiet_not, quiet_less, quiet_as, flag_small, costing, worded, some_divisor, IsDivisor, IsTruth, Evaluated, evaluated_as, evaluated_then, evaluated_known, IntType, BoolType, int_type, bool_type, or_false}
 
 -- what a refusal that isn't there tells
 pub passed : (b : Bool) (at : Place) (r : Option Place) → unless b at r ≡ None → (b ≡ true) × (r ≡ None)

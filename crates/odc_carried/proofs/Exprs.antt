@@ -1,10 +1,9 @@
 -- The code of each expression does what the source does with it.
-use Rattle.std.proofs.Common.{◌≡◌, ℕ, zero, suc, ◌+◌, ◌*◌, ◌^◌, ◌<◌, ◌≤◌, ◌⊎◌, inl, inr, Bool, true, false, List, [], ◌∷◌, length, map, arith, ap, ◌∙◌, sym, subst, refl, lit<, lit≤}
-use Rattle.std.specs.Prelude.{ℤ, pos, ◌-ℤ◌, Option, Some, None, slice_get, ◌==◌, ◌&&◌, ◌||◌, not, max, if◌then◌else◌}
+use Rattle.std.proofs.Common.{◌≡◌, ℕ, ◌+◌, ◌*◌, ◌^◌, ◌<◌, ◌≤◌, ◌⊎◌, inl, inr, Bool, true, false, List, [], arith, ap, ◌∙◌, sym, subst, refl, lit<, lit≤}
+use Rattle.std.specs.Prelude.{ℤ, pos, ◌-ℤ◌, Option, Some, None, slice_get, ◌||◌, not, if◌then◌else◌}
 use Rattle.std.specs.Int.{w64, cast_signed}
 use Rattle.odc_text.specs.declared.place.Place.{Place}
 use Rattle.rv_table.specs.Words.{minus, flag}
-use Rattle.odc_types.specs.Widths.{is_signed}
 use Rattle.odc_program.specs.declared.ops.Constant.TheVariants as con
 use Rattle.odc_program.specs.declared.ops.UnaryOp.TheVariants as un
 use Rattle.odc_program.specs.declared.ops.BinaryOp.{BinaryOp}
@@ -18,23 +17,23 @@ use Rattle.odc_program.specs.Kinds.Operators.{unary_value, operate, by_shape, ru
 use Rattle.odc_program.specs.Kinds.Calling.{handed}
 use Rattle.odc_program.specs.Kinds.Expressions.{value_of, values_of}
 use Rattle.odc_program.specs.Trees.Tree.{Expr, expr, Kind, const, local, call, unary, binary, Exprs, none, more, ty}
-use Rattle.odc_program.specs.Trees.Program.{Shape, Tables}
+use Rattle.odc_program.specs.Trees.Program.{Shape}
 use Rattle.odc_core.specs.declared.tree.BinaryOp.TheVariants.{Subtract}
-use Rattle.odc_core.specs.Tree.{Expr as CoreExpr, const as word, binary as operated, Stmts as CoreStmts}
-use Rattle.odc_carried.specs.Carried.{type_in, is_int, is_bool, names_int, refused_int, refused_ints, refused_kind, refused_truth, refused_test, truth_binary, unless, and_then, is_plain, is_quotient, is_comparison, is_connective, is_loud, is_any_loud, is_divisor, checks, in_place, can_call, needed, count, takes}
+use Rattle.odc_core.specs.Tree.{const as word, binary as operated, Stmts as CoreStmts}
+use Rattle.odc_carried.specs.Carried.{type_in, is_int, is_bool, names_int, refused_int, refused_ints, refused_kind, refused_truth, refused_test, and_then, is_plain, is_quotient, is_comparison, is_loud, is_any_loud, is_divisor, can_call, needed, count, takes}
 use Rattle.odc_carried.specs.Code.{join, Way, nested, waiting, checking, both, either, way, way_by, before_by, value_by, depth_by, before, before_kind, befores, value, value_kind, depth, depth_kind, depths, waits, held, negated, argument_before, argument_values}
 use Rattle.odc_carried.specs.Code.{values as core_values}
 use Rattle.odc_carried.specs.Tied.{Tied, Site, o, env}
 use Rattle.odc_carried.proofs.Runs.{Face}
-use Rattle.odc_carried.proofs.Sims.{rate, Sim, sim_later, sim_richer, sim_result, then_then}
+use Rattle.odc_carried.proofs.Sims.{rate, sim_later, sim_richer, sim_result, then_then}
 use Rattle.odc_carried.proofs.Values.{Val, val_int, val_word, residue_small, subtracted}
 use Rattle.odc_carried.proofs.Ties.{Facts}
 use Rattle.odc_carried.proofs.Frame.{ex}
-use Rattle.odc_carried.proofs.Quiet.{Quiet, quiet_const, quiet_binary, quiet_not, quiet_as, quiet_less, costing, Evaluated, IntType, BoolType, int_type, bool_type, and_true, or_false, IsTruth, IsDivisor}
-use Rattle.odc_carried.proofs.Evals.{passed, passed_both, compared_kind, int_read, truth_read, shaped, const_eval, local_eval, divisor_eval, truth_constant_eval, not_not, type_of, quiet_int, assoc3}
+use Rattle.odc_carried.proofs.Quiet.{quiet_const, quiet_binary, quiet_not, quiet_as, quiet_less, costing, IntType, BoolType, int_type, bool_type, or_false, IsTruth, IsDivisor}
+use Rattle.odc_carried.proofs.Evals.{passed, passed_both, int_read, truth_read, shaped, const_eval, local_eval, divisor_eval, truth_constant_eval, not_not, type_of, quiet_int, assoc3}
 use Rattle.odc_carried.proofs.Operators.{Operator, plain_operator, quotient_operator, compare_operator}
-use Rattle.odc_carried.proofs.Codes.{Ready, Alike, ready_cost, quiet_waits, Codes, codes_quiet}
-use Rattle.odc_carried.proofs.Loud.{assoc4, nested_codes, waiting_codes, checking_codes}
+use Rattle.odc_carried.proofs.Codes.{ready_cost, quiet_waits, Codes, codes_quiet}
+use Rattle.odc_carried.proofs.Loud.{nested_codes, waiting_codes, checking_codes}
 use Rattle.odc_carried.proofs.Branches.{One, Lost, unary_codes, both_codes, either_codes}
 use Rattle.odc_carried.proofs.Arguments.{EvaluatedAll, quiet_none, evaluated_more, CodesAll, codes_none, codes_waiting, codes_nested, CallsFollow, call_step}
 

@@ -1,5 +1,5 @@
 -- Core expressions and statements in a procedure's frame, as parts of runs.
-use Rattle.std.proofs.Common.{◌≡◌, ℕ, zero, suc, ◌+◌, ◌*◌, ◌%◌, ◌^◌, ◌<◌, ◌≤◌, ◌⊎◌, Bool, true, false, List, [], ◌∷◌, ◌++◌, length, map, arith, ap, ◌∙◌, sym, subst, refl, lit≤}
+use Rattle.std.proofs.Common.{◌≡◌, ℕ, zero, suc, ◌+◌, ◌%◌, ◌^◌, ◌<◌, ◌≤◌, ◌⊎◌, Bool, true, false, List, [], ◌∷◌, ◌++◌, length, map, arith, ap, ◌∙◌, sym, subst, refl}
 use Rattle.std.specs.Prelude.{Option, Some, None, option_map, slice_get, ◌==◌, ◌&&◌, ◌||◌, if◌then◌else◌}
 use Rattle.std.proofs.lemmas.Bool.Decides.{nat_tests}
 use Rattle.std.proofs.Math.Nat.{zero-add}
@@ -16,7 +16,7 @@ use Rattle.odc_core.specs.Memory.{Memory, all_in, bytes_at, before, loaded, put,
 use Rattle.odc_core.specs.Frames.{in_variables, touched_in, variable_address}
 use Rattle.odc_core.specs.Run.{Res, ok, stop, Act, then_by, ◌>>=◌, pure, Env, need, load_bytes, store_bytes, value_of, Flow, falls, leaves, answers, after, exec, exec_all, calls_of}
 use Rattle.odc_core.specs.Run.{State as CoreState}
-use Rattle.odc_carried.specs.Code.{variables_of, own_variables, waits_from, wait_variable, wait_at, pointer_at, number_at, buffer_at, buffer, pointer, number, join, one, held, waits, wait, locals_of, variable_of}
+use Rattle.odc_carried.specs.Code.{variables_of, own_variables, waits_from, wait_variable, wait_at, pointer_at, number_at, buffer_at, buffer, pointer, number, join, held, locals_of, variable_of}
 use Rattle.odc_carried.specs.Code.{put as set}
 use Rattle.odc_carried.proofs.Runs.{Face, at, with_memory, Fueled, Runs, runs_pure, runs_as, runs_then, runs_node, runs_need, runs_load, runs_store}
 use Rattle.odc_carried.proofs.Values.{word_number}

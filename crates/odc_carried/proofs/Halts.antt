@@ -3,7 +3,7 @@ use Rattle.std.proofs.Common.{◌≡◌, ℕ, ◌+◌, ◌≤◌, List, arith, a
 use Rattle.odc_text.specs.Run.{Log, going}
 use Rattle.odc_core.specs.Memory.{Memory}
 use Rattle.odc_core.specs.Tree.{Stmt, Stmts, finish, follow}
-use Rattle.odc_core.specs.Run.{Res, ok, stop, then_by, ◌>>=◌, node, pure, spend, Flow, falls, after}
+use Rattle.odc_core.specs.Run.{Res, stop, then_by, ◌>>=◌, node, pure, spend, Flow, falls, after}
 use Rattle.odc_carried.specs.Code.{join}
 use Rattle.odc_carried.specs.Tied.{Site, cenv}
 use Rattle.odc_carried.proofs.Runs.{Fueled, at}

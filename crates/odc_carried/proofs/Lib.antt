@@ -27,3 +27,4 @@ pub mod Halts
 pub mod Printing
 pub mod Print
 pub mod Lines
+pub mod Prints

@@ -1,42 +1,38 @@
 -- Printed lines.
-use Rattle.std.proofs.Common.{◌≡◌, ℕ, zero, suc, ◌+◌, ◌*◌, ◌^◌, ◌<◌, ◌≤◌, ◌⊎◌, inl, inr, Bool, true, false, List, [], ◌∷◌, ◌++◌, length, map, arith, ap, ◌∙◌, sym, subst, refl, lit<, lit≤, append_assoc, length-append}
-use Rattle.std.specs.Prelude.{ℤ, Option, Some, None}
+use Rattle.std.proofs.Common.{◌≡◌, ℕ, suc, ◌+◌, ◌<◌, ◌≤◌, ◌⊎◌, inl, inr, Bool, true, List, [], ◌∷◌, ◌++◌, length, map, arith, ap, ◌∙◌, sym, subst, refl, lit<, append_assoc, length-append}
+use Rattle.std.specs.Prelude.{ℤ, None}
 use Rattle.std.specs.Int.{w64, cast_signed}
 use Rattle.std.proofs.lemmas.List.{map-append}
 use Rattle.odc_text.specs.declared.place.Place.{Place}
-use Rattle.odc_text.specs.Run.{out, Log, strayed}
-use Rattle.odc_program.specs.declared.ops.Builtin.TheVariants as b
+use Rattle.odc_text.specs.Run.{out, Log}
 use Rattle.odc_program.specs.States.Bytes.{Pointer, Value, int_of}
 use Rattle.odc_program.specs.States.Run.{Res, ok, stop, then_by, pure}
-use Rattle.odc_program.specs.States.State.{State, Leave, ends, Do, Calls, Context, Base, is, known}
-use Rattle.odc_program.specs.Kinds.Places.{value_in, as_read}
-use Rattle.odc_program.specs.Kinds.Printing.{print, int_text, print_value, print_shaped, print_all, print_rest}
-use Rattle.odc_program.specs.Kinds.Builtins.{run_println}
+use Rattle.odc_program.specs.States.State.{State, Leave, Do, Calls, Context, Base, is, known}
+use Rattle.odc_program.specs.Kinds.Printing.{print, int_text, print_value, print_shaped, print_rest}
 use Rattle.odc_program.specs.Kinds.Expressions.{value_of, values_of}
-use Rattle.odc_program.specs.Runs.Statements.{Left, left_by, run_eval}
-use Rattle.odc_program.specs.Runs.Statements.{falls as left_falls}
-use Rattle.odc_program.specs.Trees.Tree.{Expr, expr, builtin, Exprs, none, more, ty, tys}
-use Rattle.odc_program.specs.Trees.Program.{Shape, several}
+use Rattle.odc_program.specs.Runs.Statements.{Left}
+use Rattle.odc_program.specs.Trees.Tree.{Exprs, none, more, tys}
+use Rattle.odc_program.specs.Trees.Program.{Shape}
 use Rattle.odc_core.specs.Memory.{Memory}
 use Rattle.odc_core.specs.Tree.{Stmts, finish, follow}
-use Rattle.odc_core.specs.Run.{Flow, falls, after, ◌>>=◌}
+use Rattle.odc_core.specs.Run.{Flow, after}
 use Rattle.odc_core.specs.Run.{Res as CoreRes, then_by as onto}
-use Rattle.odc_carried.specs.Carried.{type_in, is_nothing, is_empty_shape, refused_int, refused_ints, count}
-use Rattle.odc_carried.specs.Code.{join, one, wait, wait_offset, before, value, depth, depths, waits_all, print_code, values_code, newline_code, line_code}
+use Rattle.odc_carried.specs.Carried.{type_in, refused_int, refused_ints, count}
+use Rattle.odc_carried.specs.Code.{join, wait, before, value, depths, waits_all, print_code, values_code}
 use Rattle.odc_carried.specs.Tied.{Site, o, env, cenv}
-use Rattle.odc_carried.proofs.Runs.{Face, at as standing, Runs, runs_pure}
-use Rattle.odc_carried.proofs.Sims.{rate, read, Told, Sim, Reached, Pause, Arrives, Leads, sim_leads, sim_runs, sim_later, sim_richer, sim_result, then_then}
+use Rattle.odc_carried.proofs.Runs.{Face, at as standing}
+use Rattle.odc_carried.proofs.Sims.{read, Told, Sim, sim_leads, sim_richer, sim_result, then_then}
 use Rattle.odc_carried.proofs.Values.{Val, val_int}
 use Rattle.odc_carried.proofs.Ties.{Facts, now_alike}
 use Rattle.odc_carried.proofs.Frame.{WordAt, word_apart, ex, exec_join}
-use Rattle.odc_carried.proofs.Quiet.{IntType, costing}
-use Rattle.odc_carried.proofs.Evals.{passed_both, type_of, assoc3}
-use Rattle.odc_carried.proofs.Codes.{Ready, Alike, alike_same, alike_on, ready_cost, waited, slot, waited_ready, waited_alike, waited_there, still_waits, step_known, step_wait, rejoin, join_assoc}
+use Rattle.odc_carried.proofs.Quiet.{IntType}
+use Rattle.odc_carried.proofs.Evals.{passed_both, type_of}
+use Rattle.odc_carried.proofs.Codes.{Ready, Alike, alike_same, alike_on, waited, slot, waited_ready, waited_alike, waited_there, still_waits, step_known, step_wait, rejoin, join_assoc}
 use Rattle.odc_carried.proofs.Arguments.{AreVals, CallsFollow}
-use Rattle.odc_carried.proofs.Exprs.{code_int, then_same}
+use Rattle.odc_carried.proofs.Exprs.{code_int}
 use Rattle.odc_carried.proofs.Stmts.{Done}
 use Rattle.odc_carried.proofs.Printing.{ba, na, IsLow}
-use Rattle.odc_carried.proofs.Print.{Printed, print_runs, newline_runs}
+use Rattle.odc_carried.proofs.Print.{Printed, print_runs}
 
 -- a log of bytes is read as it is
 read_out : (entries : ℕ → ℕ) (log : Log Pointer ℕ) (l : Log ℕ ℕ) (bytes : List ℕ) → map (read entries) log ≡ l → map (read entries) (log ++ map out bytes) ≡ l ++ map out bytes
@@ -47,7 +43,7 @@ read_out entries log l bytes e = map-append (read entries) log (map out bytes) �
     outs (b ∷ bs) = ap (λ (x : Log ℕ ℕ). out b ∷ x) (outs bs)
 
 -- a state in which this was printed
-abbrev printed : State → List ℕ → State
+abbrev pub printed : State → List ℕ → State
 printed s text = record s { log = s.log ++ map out text; cost = s.cost + length text }
 
 join_done : (a : Stmts) → join a finish ≡ a
@@ -56,11 +52,11 @@ join_done (follow x a) = ap (follow x) (join_done a)
 
 module _ (S : Site) (F : Facts S) (calls : Calls) (follows : CallsFollow S F (λ f vs c low. calls.call f (pure tt) vs c low)) (c : Context) where
   -- words that wait from a depth on
-  abbrev AllWait : ℕ → Face → List ℕ → Type 0
+  abbrev pub AllWait : ℕ → Face → List ℕ → Type 0
   AllWait d h [] = Unit {0}
   AllWait d h (w ∷ ws) = WordAt h.memory (slot S F d) w × AllWait (d + 1) h ws
 
-  wait_all_sim : (es : Exprs) (d : ℕ) → refused_ints S.tables S.proc es ≡ None → d + depths es ≤ (o S).waiting → {A : Type 0} (tail : Stmts) (Q : A → State → Flow → Face → Type 0) (j b g : ℕ) (s : State) (h : Face) (f : List Value → Do A) → Ready S F s h →
+  pub wait_all_sim : (es : Exprs) (d : ℕ) → refused_ints S.tables S.proc es ≡ None → d + depths es ≤ (o S).waiting → {A : Type 0} (tail : Stmts) (Q : A → State → Flow → Face → Type 0) (j b g : ℕ) (s : State) (h : Face) (f : List Value → Do A) → Ready S F s h →
       ((vs : List Value) (t : State) (ws : List ℕ) (h' : Face) → AreVals S.entries vs ws → length ws ≡ count es → AllWait d h' ws → Ready S F t h' → Alike S F d h h' → Sim S.entries Q j b g (ex S tail) t h' (f vs t)) →
       Sim S.entries Q j b g (ex S (join (waits_all (o S) d es) tail)) s h (then_by (values_of calls (env S c) es s) f)
   wait_all_sim none d r fit tail Q j b g s h f ready k = k [] s [] h tt refl tt ready (alike_same S F d h)
@@ -85,17 +81,17 @@ module _ (S : Site) (F : Facts S) (calls : Calls) (follows : CallsFollow S F (λ
       k (v ∷ vs) t' (w ∷ ws) h'' (isv, are) (omega (arith, counted)) (still_waits S F d (d + 1) w h1 h'' (omega arith) alike'' (waited_there S F d w inside t h' ready'), waits') ready''
       (alike_on S F d d h h' h'' (omega arith) alike (alike_on S F d (d + 1) h' h1 h'' (omega arith) (waited_alike S F d w inside t h' ready') alike'')))))))))
 
-  is_low : IsLow S
+  pub is_low : IsLow S
   is_low = record { some = omega (arith, F.bottom); small = omega (arith, F.top, F.room) }
 
   -- ---- a text that is printed
-  abbrev after_text : Face → Memory → List ℕ → Face
+  abbrev pub after_text : Face → Memory → List ℕ → Face
   after_text h m text = record { memory = m; log = h.log ++ map out text; input = h.input; taken = h.taken }
 
   printed_told : (u : State) (h : Face) (m : Memory) (text : List ℕ) → Told S.entries u h → Told S.entries (printed u text) (after_text h m text)
   printed_told u h m text told = record { logs = read_out S.entries u.log h.log text told.logs; input = told.input; taken = told.taken }
 
-  printed_ready : (u : State) (h : Face) (m : Memory) (text : List ℕ) → ((x : ℕ) → (x < ba S) ⊎ (na S + 8 ≤ x) → m x ≡ h.memory x) → Ready S F u h → Ready S F (printed u text) (after_text h m text)
+  pub printed_ready : (u : State) (h : Face) (m : Memory) (text : List ℕ) → ((x : ℕ) → (x < ba S) ⊎ (na S + 8 ≤ x) → m x ≡ h.memory x) → Ready S F u h → Ready S F (printed u text) (after_text h m text)
   printed_ready u h m text others r = record {
     now = now_alike S F u.memory u.serial h.memory m (λ i zone. others i (elim zone [ inl a ↦ inl (omega (arith, a.1)) | inr a ↦ inr (omega (arith, F.room)) ])) r.now;
     newer = r.newer;
@@ -106,7 +102,7 @@ module _ (S : Site) (F : Facts S) (calls : Calls) (follows : CallsFollow S F (λ
 
   -- both sides print it, and go on
   module _ {A : Type 0} (Q : A → State → Flow → Face → Type 0) (j b : ℕ) where
-    print_step : (ss tail : Stmts) (u : State) (h : Face) (text : List ℕ) → Ready S F u h → (p : Printed j S h.input h.taken is_low ss h.memory h.log text) → (r : Res Leave State A) →
+    pub print_step : (ss tail : Stmts) (u : State) (h : Face) (text : List ℕ) → Ready S F u h → (p : Printed j S h.input h.taken is_low ss h.memory h.log text) → (r : Res Leave State A) →
         Sim S.entries Q j b 0 (ex S tail) (printed u text) (after_text h p.memory text) r → Sim S.entries Q j b 0 (ex S (join ss tail)) u h r
     print_step ss tail u h text ready p r sim =
         let h2 : Face = after_text h p.memory text in
@@ -128,11 +124,11 @@ module _ (S : Site) (F : Facts S) (calls : Calls) (follows : CallsFollow S F (λ
         })) r sim
 
   -- ---- values
-  abbrev AreIntTypes : List ℕ → Type 0
+  abbrev pub AreIntTypes : List ℕ → Type 0
   AreIntTypes [] = Unit {0}
   AreIntTypes (t ∷ ts) = IntType S.tables t × AreIntTypes ts
 
-  int_types : (es : Exprs) → refused_ints S.tables S.proc es ≡ None → AreIntTypes (tys es)
+  pub int_types : (es : Exprs) → refused_ints S.tables S.proc es ≡ None → AreIntTypes (tys es)
   int_types none r = tt
   int_types (more e es) r = let both = passed_both (refused_int S.tables S.proc e) (refused_ints S.tables S.proc es) r in (type_of S c e both.0, int_types es both.1)
 
@@ -148,10 +144,10 @@ module _ (S : Site) (F : Facts S) (calls : Calls) (follows : CallsFollow S F (λ
       let two : u.cost + length a + length b ≡ u.cost + length (a ++ b) = omega (arith, length-append a b) in
       ap (λ (l : Log Pointer ℕ). let s : State = record u { log = l; cost = u.cost + length a + length b } in s) one ∙ ap (λ (k : ℕ). let s : State = record u { log = u.log ++ map out (a ++ b); cost = k } in s) two
 
-  abbrev done_base : Do Base
+  abbrev pub done_base : Do Base
   done_base u = ok (is []) u
 
-  abbrev newline : Do (Unit {0})
+  abbrev pub newline : Do (Unit {0})
   newline u = print (10 ∷ []) u
 
   all_wait_on : (d : ℕ) (h h' : Face) (ws : List ℕ) → ((x : ℕ) → na S + 8 ≤ x → h'.memory x ≡ h.memory x) → AllWait d h ws → AllWait d h' ws
@@ -159,21 +155,21 @@ module _ (S : Site) (F : Facts S) (calls : Calls) (follows : CallsFollow S F (λ
   all_wait_on d h h' (w ∷ ws) same a = (word_apart h.memory h'.memory (slot S F d) w (λ x from to. same x (omega arith)) a.0, all_wait_on (d + 1) h h' ws same a.1)
 
   module _ (at : Place) (h0 : Face) (j : ℕ) (K : Base → Do Left) (end : (u : State) (h : Face) → Ready S F u h → ((i : ℕ) → S.low + S.proc.frame ≤ i → h.memory i ≡ h0.memory i) → Sim S.entries (Done S F h0) j 0 0 (ex S finish) u h (K (is []) u)) where
-    unjoin : (a : Stmts) (u : State) (h : Face) (r : Res Leave State Left) → Sim S.entries (Done S F h0) j 0 0 (ex S (join a finish)) u h r → Sim S.entries (Done S F h0) j 0 0 (ex S a) u h r
+    pub unjoin : (a : Stmts) (u : State) (h : Face) (r : Res Leave State Left) → Sim S.entries (Done S F h0) j 0 0 (ex S (join a finish)) u h r → Sim S.entries (Done S F h0) j 0 0 (ex S a) u h r
     unjoin a u h r x = let P : Stmts → Type 0 = λ y. Sim S.entries (Done S F h0) j 0 0 (ex S y) u h r in subst P (join_done a) x
 
     -- what stands behind a value
-    abbrev rest_run : List ℕ → List Value → Do Left
+    abbrev pub rest_run : List ℕ → List Value → Do Left
     rest_run ts vs u = then_by (then_by (then_by (print_rest (env S c) at ts vs u) (λ _. newline)) (λ _. done_base)) K
 
-    abbrev from_value : ℕ → Value → List ℕ → List Value → Do Left
+    abbrev pub from_value : ℕ → Value → List ℕ → List Value → Do Left
     from_value t v ts vs u = then_by (then_by (then_by (then_by (print_value (env S c) at t v u) (λ _. print_rest (env S c) at ts vs)) (λ _. newline)) (λ _. done_base)) K
 
     regroup : (r : Res Leave State (Unit {0})) (ts : List ℕ) (vs : List Value) → then_by (then_by (then_by (then_by r (λ _. print_rest (env S c) at ts vs)) (λ _. newline)) (λ _. done_base)) K ≡ then_by r (λ _. rest_run ts vs)
     regroup (ok x u) ts vs = refl
     regroup (stop why u) ts vs = refl
 
-    above_on : (h h' : Face) → ((x : ℕ) → (x < ba S) ⊎ (na S + 8 ≤ x) → h'.memory x ≡ h.memory x) → ((i : ℕ) → S.low + S.proc.frame ≤ i → h.memory i ≡ h0.memory i) → (i : ℕ) → S.low + S.proc.frame ≤ i → h'.memory i ≡ h0.memory i
+    pub above_on : (h h' : Face) → ((x : ℕ) → (x < ba S) ⊎ (na S + 8 ≤ x) → h'.memory x ≡ h.memory x) → ((i : ℕ) → S.low + S.proc.frame ≤ i → h.memory i ≡ h0.memory i) → (i : ℕ) → S.low + S.proc.frame ≤ i → h'.memory i ≡ h0.memory i
     above_on h h' others above i far = others i (inr (omega (arith, F.room, far))) ∙ above i far
 
     -- a value, a byte behind it, and what follows
@@ -196,7 +192,7 @@ module _ (S : Site) (F : Facts S) (calls : Calls) (follows : CallsFollow S F (λ
         (print_step (Done S F h0) j 0 (print_code (o S) d behind) tail u h text ready p (g u2)
         (next u2 h2 p.others (printed_ready u h p.memory text p.others ready)))))
 
-    values_sim : (t : ℕ) (v : Value) (w : ℕ) (ts : List ℕ) (vs : List Value) (ws : List ℕ) (d : ℕ) (u : State) (h : Face) → length ts ≡ length vs → d + suc (length ws) ≤ (o S).waiting → IntType S.tables t → AreIntTypes ts → Val S.entries 8 v w → AreVals S.entries vs ws → WordAt h.memory (slot S F d) w → AllWait (d + 1) h ws → Ready S F u h →
+    pub values_sim : (t : ℕ) (v : Value) (w : ℕ) (ts : List ℕ) (vs : List Value) (ws : List ℕ) (d : ℕ) (u : State) (h : Face) → length ts ≡ length vs → d + suc (length ws) ≤ (o S).waiting → IntType S.tables t → AreIntTypes ts → Val S.entries 8 v w → AreVals S.entries vs ws → WordAt h.memory (slot S F d) w → AllWait (d + 1) h ws → Ready S F u h →
         ((i : ℕ) → S.low + S.proc.frame ≤ i → h.memory i ≡ h0.memory i) → Sim S.entries (Done S F h0) j 0 0 (ex S (values_code (o S) d (suc (length ws)))) u h (from_value t v ts vs u)
     values_sim t v w [] [] [] d u h long fit i is' val are there waits' ready above =
         unjoin (print_code (o S) d 10) u h (from_value t v [] [] u)

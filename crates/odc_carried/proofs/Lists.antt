@@ -1,27 +1,27 @@
 -- Statements in a row, blocks and conditions.
-use Rattle.std.proofs.Common.{◌≡◌, ℕ, zero, suc, ◌+◌, ◌*◌, ◌^◌, ◌<◌, ◌≤◌, ◌⊎◌, inl, inr, Bool, true, false, List, [], ◌∷◌, length, map, arith, ap, ◌∙◌, sym, subst, refl, lit<, lit≤}
-use Rattle.std.specs.Prelude.{Option, Some, None, ◌==◌, if◌then◌else◌}
+use Rattle.std.proofs.Common.{◌≡◌, ℕ, ◌+◌, ◌≤◌, inr, Bool, true, false, arith, ap, ◌∙◌, refl}
+use Rattle.std.specs.Prelude.{if◌then◌else◌}
 use Rattle.odc_text.specs.declared.place.Place.{Place}
 use Rattle.rv_table.specs.Words.{flag}
 use Rattle.odc_program.specs.States.Bytes.{Value, truth_bytes}
 use Rattle.odc_program.specs.States.Run.{Res, ok, stop, then_by}
 use Rattle.odc_program.specs.States.State.{State, Leave, ends, back, Do, Context}
 use Rattle.odc_program.specs.Kinds.Places.{read_truth}
-use Rattle.odc_program.specs.Runs.Statements.{Left, left_by, Part, after_falls, caught, caught_by, scoped, labelled, stopped_at, stepped, headed, choose}
+use Rattle.odc_program.specs.Runs.Statements.{Left, Part, after_falls, caught_by, scoped, labelled, stopped_at, headed}
 use Rattle.odc_program.specs.Runs.Statements.{Flow as LeftFlow, falls as left_falls, breaks, continues, passes, returns}
-use Rattle.odc_core.specs.Tree.{Expr as CoreExpr, choose as branch, Stmts, finish, follow}
+use Rattle.odc_core.specs.Tree.{Expr as CoreExpr, choose as branch, Stmts}
 use Rattle.odc_core.specs.Run.{Flow, falls, leaves, answers, after, pure, ◌>>=◌}
-use Rattle.odc_core.specs.Run.{State as CoreState, Res as CoreRes, ok as fine, stop as halt, then_by as onto}
+use Rattle.odc_core.specs.Run.{Res as CoreRes, ok as fine, stop as halt, then_by as onto}
 use Rattle.odc_carried.specs.Code.{join, one}
-use Rattle.odc_carried.specs.Tied.{Site, o, cenv}
-use Rattle.odc_carried.proofs.Runs.{Face, Fueled, Runs, runs_pure}
-use Rattle.odc_carried.proofs.Sims.{rate, Told, Sim, seq, sim_runs, sim_act, sim_map, sim_later, sim_richer, sim_result, then_then}
+use Rattle.odc_carried.specs.Tied.{Site, cenv}
+use Rattle.odc_carried.proofs.Runs.{Face, Fueled, runs_pure}
+use Rattle.odc_carried.proofs.Sims.{Sim, seq, sim_runs, sim_act, sim_map, sim_richer, sim_result, then_then}
 use Rattle.odc_carried.proofs.Ties.{Facts}
-use Rattle.odc_carried.proofs.Frame.{exec_join, ev, ex1, ex}
-use Rattle.odc_carried.proofs.Quiet.{Quiet, quiet_as, costing, IsTruth}
-use Rattle.odc_carried.proofs.Codes.{Ready, ready_cost, Codes}
+use Rattle.odc_carried.proofs.Frame.{exec_join, ex1, ex}
+use Rattle.odc_carried.proofs.Quiet.{Quiet, quiet_as, IsTruth}
+use Rattle.odc_carried.proofs.Codes.{Ready, Codes}
 use Rattle.odc_carried.proofs.Branches.{branch_true, branch_false}
-use Rattle.odc_carried.proofs.Stmts.{AreLeft, Gave, Done}
+use Rattle.odc_carried.proofs.Stmts.{AreLeft, Done}
 
 -- a single statement's run is that of the statement
 pub alone : (r : CoreRes Flow) → onto r (λ f. after f (pure falls)) ≡ r

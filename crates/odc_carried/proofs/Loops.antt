@@ -1,30 +1,28 @@
 -- Loops.
-use Rattle.std.proofs.Common.{◌≡◌, ℕ, zero, suc, ◌+◌, ◌-◌, ◌*◌, ◌^◌, ◌<◌, ◌≤◌, ◌⊎◌, inl, inr, Bool, true, false, List, [], ◌∷◌, length, map, arith, ap, ◌∙◌, sym, subst, refl, lit<, lit≤}
+use Rattle.std.proofs.Common.{◌≡◌, ℕ, zero, suc, ◌+◌, ◌-◌, ◌<◌, ◌≤◌, inr, Bool, true, false, arith, ap, ◌∙◌, sym, refl, lit<, lit≤}
 use Rattle.std.specs.Prelude.{Option, Some, None, ◌==◌, if◌then◌else◌}
-use Rattle.std.proofs.Math.Nat.{add-zero}
 use Rattle.odc_text.specs.declared.place.Place.{Place}
 use Rattle.odc_text.specs.Run.{going}
 use Rattle.rv_table.specs.Words.{flag}
 use Rattle.odc_program.specs.States.Bytes.{Value, truth_bytes}
 use Rattle.odc_program.specs.States.Run.{Res, ok, stop, then_by}
-use Rattle.odc_program.specs.States.State.{State, Leave, ends, back, Do, Context, take_turn, turn, turn_from}
+use Rattle.odc_program.specs.States.State.{State, Leave, ends, Do, Context, turn, turn_from}
 use Rattle.odc_program.specs.Kinds.Places.{read_truth}
 use Rattle.odc_program.specs.Runs.Statements.{Left, left_by, Part, after_falls, goes_on, next_turn, run_turn}
 use Rattle.odc_program.specs.Runs.Statements.{turns as source_turns}
 use Rattle.odc_program.specs.Runs.Statements.{Flow as LeftFlow, falls as left_falls, breaks, continues, passes, returns}
-use Rattle.odc_core.specs.Tree.{Expr as CoreExpr, const as word, choose as branch, leave, repeat, Stmts, finish, follow}
+use Rattle.odc_core.specs.Tree.{Expr as CoreExpr, const as word, choose as branch, leave, Stmts, finish, follow}
 use Rattle.odc_core.specs.Run.{Flow, falls, leaves, answers, after, after_turn, turns, pure, spend, ◌>>=◌}
 use Rattle.odc_core.specs.Run.{State as CoreState, Res as CoreRes, ok as fine, stop as halt, then_by as onto}
 use Rattle.odc_carried.specs.Code.{join, one}
-use Rattle.odc_carried.specs.Tied.{Site, o, cenv}
-use Rattle.odc_carried.proofs.Runs.{Face, at as standing, Fueled, Runs, runs_pure, runs_then, runs_node, runs_spend}
-use Rattle.odc_carried.proofs.Sims.{rate, Told, Sim, Arrives, Leads, seq, sim_runs, sim_first, sim_act, sim_behind, sim_map, sim_turn, sim_out, sim_leads, sim_later, sim_richer, sim_result, then_then, onto_onto}
+use Rattle.odc_carried.specs.Tied.{Site, cenv}
+use Rattle.odc_carried.proofs.Runs.{Face, at as standing, Fueled, runs_pure, runs_then}
+use Rattle.odc_carried.proofs.Sims.{Sim, seq, sim_runs, sim_first, sim_act, sim_turn, sim_out, sim_leads, sim_richer, sim_result, then_then, onto_onto}
 use Rattle.odc_carried.proofs.Ties.{Facts}
 use Rattle.odc_carried.proofs.Frame.{exec_join, ev, ex1, ex, r_one, r_choose, r_leave}
-use Rattle.odc_carried.proofs.Quiet.{Quiet, quiet_const, quiet_as, costing, IsTruth}
-use Rattle.odc_carried.proofs.Codes.{Ready, ready_cost, Codes}
+use Rattle.odc_carried.proofs.Quiet.{Quiet, quiet_const, quiet_as, IsTruth}
+use Rattle.odc_carried.proofs.Codes.{Ready, Codes}
 use Rattle.odc_carried.proofs.Stmts.{AreLeft, Gave, Done}
-use Rattle.odc_carried.proofs.Lists.{done_on}
 use Rattle.odc_carried.proofs.Turns.{rest_of, begins}
 
 -- ---- a turn of the source by itself: whether another one may follow

@@ -1,8 +1,7 @@
 -- Operations whose operands hold calls or checks.
-use Rattle.std.proofs.Common.{◌≡◌, ℕ, zero, suc, ◌+◌, ◌*◌, ◌^◌, ◌<◌, ◌≤◌, ◌⊎◌, inl, inr, Bool, true, false, List, [], ◌∷◌, length, map, arith, ap, ◌∙◌, sym, subst, refl, lit<, lit≤}
-use Rattle.std.specs.Prelude.{ℤ, Option, Some, None, slice_get, ◌==◌, not, if◌then◌else◌}
+use Rattle.std.proofs.Common.{◌≡◌, ℕ, ◌+◌, ◌*◌, ◌^◌, ◌<◌, ◌≤◌, Bool, true, false, arith, ap, ◌∙◌, sym, subst, refl}
+use Rattle.std.specs.Prelude.{ℤ, ◌==◌, if◌then◌else◌}
 use Rattle.std.specs.Int.{w64, cast_signed}
-use Rattle.std.proofs.Math.Nat.{add-zero}
 use Rattle.odc_text.specs.declared.place.Place.{Place}
 use Rattle.odc_text.specs.declared.check.Check.TheVariants as check
 use Rattle.odc_text.specs.Run.{checked}
@@ -11,19 +10,18 @@ use Rattle.odc_program.specs.States.Bytes.{Value, int_of}
 use Rattle.odc_program.specs.States.Run.{Res, ok, stop, then_by}
 use Rattle.odc_program.specs.States.State.{State, Leave, ends, Do, known, Base}
 use Rattle.odc_program.specs.Kinds.Operators.{calculate}
-use Rattle.odc_core.specs.Tree.{Expr as CoreExpr, check as checks, Stmts, finish, follow}
-use Rattle.odc_core.specs.Words.{bytes_of}
+use Rattle.odc_core.specs.Tree.{Expr as CoreExpr, check as checks, Stmts, follow}
 use Rattle.odc_core.specs.Run.{Flow, falls, after, pure, spend, ◌>>=◌}
-use Rattle.odc_core.specs.Run.{State as CoreState, Res as CoreRes, ok as fine, stop as halt, then_by as onto}
+use Rattle.odc_core.specs.Run.{Res as CoreRes, stop as halt, then_by as onto}
 use Rattle.odc_carried.specs.Carried.{is_quotient}
 use Rattle.odc_carried.specs.Code.{join, one, waits, wait, binary_code}
-use Rattle.odc_carried.specs.Tied.{Tied, Site, o, cenv}
+use Rattle.odc_carried.specs.Tied.{Tied, Site, o}
 use Rattle.odc_carried.proofs.Runs.{Face, at as standing, Fueled, Runs, runs_pure, runs_then, runs_node}
 use Rattle.odc_carried.proofs.Sims.{rate, Told, Sim, sim_first, sim_later, sim_richer, sim_result}
 use Rattle.odc_carried.proofs.Values.{Val, val_int}
 use Rattle.odc_carried.proofs.Ties.{Facts}
 use Rattle.odc_carried.proofs.Frame.{WordAt, ev, ex1, ex}
-use Rattle.odc_carried.proofs.Quiet.{Quiet, quiet_as, costing, Evaluated, IsDivisor}
+use Rattle.odc_carried.proofs.Quiet.{Quiet, costing, Evaluated, IsDivisor}
 use Rattle.odc_carried.proofs.Operators.{Operator, stops_at_zero}
 use Rattle.odc_carried.proofs.Codes.{join_assoc, Ready, Alike, alike_same, alike_on, ready_cost, waited, slot, waited_ready, waited_alike, waited_there, quiet_waits, still_waits, step_wait, rejoin, step_eval, step_known, Codes}
 

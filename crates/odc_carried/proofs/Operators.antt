@@ -1,6 +1,6 @@
 -- Operators on two integers, as data: what they cost and give on both sides.
-use Rattle.std.proofs.Common.{◌≡◌, ℕ, suc, ◌+◌, ◌*◌, ◌%◌, ◌^◌, ◌<◌, ◌≤◌, Bool, true, false, arith, ap, ◌∙◌, sym, subst, refl, lit≤}
-use Rattle.std.specs.Prelude.{ℤ, pos, ◌+ℤ◌, ◌-ℤ◌, ◌*ℤ◌, ◌==◌, not, int_lt, int_div, int_rem, if◌then◌else◌}
+use Rattle.std.proofs.Common.{◌≡◌, ℕ, ◌+◌, ◌*◌, ◌%◌, ◌^◌, ◌<◌, ◌≤◌, Bool, true, arith, ap, ◌∙◌, sym, refl, lit≤}
+use Rattle.std.specs.Prelude.{ℤ, ◌+ℤ◌, ◌-ℤ◌, ◌*ℤ◌, ◌==◌, not, int_lt, int_div, int_rem}
 use Rattle.std.specs.Ordering.{int_eq}
 use Rattle.std.specs.Int.{w64, cast_signed}
 use Rattle.odc_text.specs.declared.place.Place.{Place}
@@ -9,10 +9,10 @@ use Rattle.odc_text.specs.Run.{checked}
 use Rattle.rv_table.specs.Words.{plus, minus, quotient, remainder, flag}
 use Rattle.odc_program.specs.declared.ops.BinaryOp.{BinaryOp}
 use Rattle.odc_program.specs.declared.ops.BinaryOp.TheVariants as op
-use Rattle.odc_program.specs.States.Bytes.{Value, bytes_of, residue, int_bytes, truth_bytes}
-use Rattle.odc_program.specs.States.Run.{ok, stop, pure}
-use Rattle.odc_program.specs.States.State.{State, ends, fail}
-use Rattle.odc_program.specs.Kinds.Operators.{calculate, divided, says}
+use Rattle.odc_program.specs.States.Bytes.{Value, bytes_of, residue, truth_bytes}
+use Rattle.odc_program.specs.States.Run.{ok, stop}
+use Rattle.odc_program.specs.States.State.{State, ends}
+use Rattle.odc_program.specs.Kinds.Operators.{calculate, says}
 use Rattle.odc_core.specs.declared.tree.BinaryOp.TheVariants.{Add, Subtract, Multiply, Divide, Remainder}
 use Rattle.odc_core.specs.declared.tree.Comparison.TheVariants.{Equal, Different, Less}
 use Rattle.odc_core.specs.Tree.{Expr as CoreExpr, compare}
@@ -20,7 +20,7 @@ use Rattle.odc_carried.specs.Carried.{is_plain, is_quotient, is_comparison}
 use Rattle.odc_carried.specs.Code.{binary_code, negated}
 use Rattle.odc_carried.specs.Tied.{Site}
 use Rattle.odc_carried.proofs.Runs.{Face}
-use Rattle.odc_carried.proofs.Values.{Val, val_word, added, subtracted, multiplied, divided_word, rest_word, quotient_small, remainder_small, equal_test, zero_test, behind_is, not_twice}
+use Rattle.odc_carried.proofs.Values.{Val, val_word, added, subtracted, multiplied, divided_word, rest_word, quotient_small, remainder_small, equal_test, behind_is, not_twice}
 use Rattle.odc_carried.proofs.Quiet.{Quiet, quiet_binary, quiet_compare, quiet_not, quiet_less, quiet_as, costing, IsTruth, IsDivisor, worded, some_divisor, zero_divisor}
 
 pub record Operator (S : Site) (Is2 Is3 : Value → ℕ → Type 0) (o1 : BinaryOp) (at : Place) : Type 0 where

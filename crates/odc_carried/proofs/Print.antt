@@ -4,7 +4,6 @@ use Rattle.std.specs.Prelude.{ℤ, decimal, nat_lt, not}
 use Rattle.std.specs.Int.{w64, cast_signed}
 use Rattle.std.proofs.lemmas.Bool.Decides.{nat_tests}
 use Rattle.std.proofs.lemmas.Fmt.{length-decimal-le}
-use Rattle.odc_text.specs.declared.place.Place.{Place}
 use Rattle.odc_text.specs.Run.{out, Log}
 use Rattle.rv_table.specs.Words.{minus, flag, signed_below}
 use Rattle.rv_table.proofs.Bytes.{run_same}
@@ -16,9 +15,9 @@ use Rattle.odc_core.specs.Tree.{Stmt, const, slot, binary, compare, choose, repe
 use Rattle.odc_core.specs.Words.{bytes_of}
 use Rattle.odc_core.specs.Memory.{Memory, put}
 use Rattle.odc_core.specs.Run.{falls, moved, turns}
-use Rattle.odc_carried.specs.Code.{number, pointer_at, number_at, buffer_at, wait_at, wait_variable, wait_offset, waits, join, one, held, front, digit_code, write_code, print_code, newline_code}
+use Rattle.odc_carried.specs.Code.{number, pointer_at, number_at, buffer_at, wait_at, wait_variable, wait_offset, waits, join, one, front, digit_code, write_code, print_code, newline_code}
 use Rattle.odc_carried.specs.Code.{put as set}
-use Rattle.odc_carried.specs.Tied.{Site, o, cenv}
+use Rattle.odc_carried.specs.Tied.{Site, o}
 use Rattle.odc_carried.proofs.Values.{signed_low, signed_high, below_low, below_high, negated}
 use Rattle.odc_carried.proofs.Frame.{WordAt, word_apart, put_word, put_away, wait_found, number_found}
 use Rattle.odc_carried.proofs.Halts.{Halts, halts_one, halts_follow, halts_join}

@@ -4,7 +4,6 @@ use Rattle.std.specs.Prelude.{Option, Some, None, decimal, nat_lt, ◌==◌, if�
 use Rattle.std.proofs.Math.Nat.{mod-eq_of_lt, add-mod_right}
 use Rattle.std.proofs.lemmas.Bool.Decides.{nat_tests}
 use Rattle.std.proofs.lemmas.Fmt.{decimal_digit, decimal_step}
-use Rattle.odc_text.specs.declared.place.Place.{Place}
 use Rattle.odc_text.specs.Run.{out, Log}
 use Rattle.rv_table.specs.Bytes.{run}
 use Rattle.rv_table.specs.Words.{plus, minus}
@@ -16,7 +15,7 @@ use Rattle.odc_core.specs.Tree.{Expr, const, slot, binary, store, choose, leave,
 use Rattle.odc_core.specs.Words.{bytes_of}
 use Rattle.odc_core.specs.Memory.{Memory, all_in, bytes_at, loaded, put}
 use Rattle.odc_core.specs.Frames.{touched_in}
-use Rattle.odc_core.specs.Run.{◌>>=◌, pure, moved, World, load_bytes, write_bytes, Flow, falls, leaves}
+use Rattle.odc_core.specs.Run.{◌>>=◌, pure, moved, load_bytes, write_bytes, Flow, falls, leaves}
 use Rattle.odc_carried.specs.Code.{variables_of, buffer, pointer, number, buffer_at, pointer_at, number_at, one, held, front, digit_code, write_code}
 use Rattle.odc_carried.specs.Code.{put as set}
 use Rattle.odc_carried.specs.Tied.{Site, o, cenv}

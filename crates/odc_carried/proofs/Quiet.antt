@@ -1,22 +1,20 @@
 -- Expressions that hold no call and no check: the source gives a value and changes nothing but its cost, or strays; and
 -- the core expression gives the word of that value and changes nothing.
-use Rattle.std.proofs.Common.{◌≡◌, ℕ, zero, suc, ◌+◌, ◌*◌, ◌^◌, ◌<◌, ◌≤◌, ◌⊎◌, inl, inr, Bool, true, false, List, [], ◌∷◌, length, map, arith, ap, ◌∙◌, sym, subst, refl, lit<, lit≤}
-use Rattle.std.specs.Prelude.{ℤ, pos, ◌-ℤ◌, Option, Some, None, slice_get, ◌==◌, ◌&&◌, ◌||◌, not, nat_lt, if◌then◌else◌}
+use Rattle.std.proofs.Common.{◌≡◌, ℕ, ◌+◌, ◌*◌, ◌^◌, ◌<◌, ◌≤◌, ◌⊎◌, inl, inr, Bool, true, false, arith, ap, ◌∙◌, sym, subst, refl, lit<, lit≤}
+use Rattle.std.specs.Prelude.{ℤ, Option, Some, None, slice_get, ◌==◌, ◌&&◌, ◌||◌, not, if◌then◌else◌}
 use Rattle.std.specs.Int.{w64, cast_signed}
 use Rattle.std.proofs.lemmas.Bool.Decides.{nat_tests}
 use Rattle.odc_text.specs.declared.place.Place.{Place}
 use Rattle.std.proofs.Math.Nat.{add-zero}
 use Rattle.odc_text.specs.declared.check.Check.TheVariants as check
 use Rattle.odc_text.specs.Run.{strayed, checked}
-use Rattle.rv_table.specs.Words.{minus, flag}
+use Rattle.rv_table.specs.Words.{flag}
 use Rattle.odc_types.specs.declared.width.Width.{Width}
 use Rattle.odc_types.specs.Widths.{is_signed}
-use Rattle.odc_program.specs.States.Bytes.{Value, bytes_of, residue, int_bytes, int_of, truth_bytes}
+use Rattle.odc_program.specs.States.Bytes.{Value, bytes_of, int_bytes, truth_bytes}
 use Rattle.odc_program.specs.States.Run.{Res, ok, stop, then_by, pure}
-use Rattle.odc_program.specs.States.State.{State, Leave, ends, Do, known, fail, Env, Context}
+use Rattle.odc_program.specs.States.State.{State, Leave, ends, Do, known, fail}
 use Rattle.odc_program.specs.Kinds.Operators.{divided}
-use Rattle.odc_program.specs.Kinds.Places.{value_in}
-use Rattle.odc_program.specs.Runs.Source.{env_of}
 use Rattle.odc_program.specs.Trees.Program.{Shape, whole, truth, Tables}
 use Rattle.odc_core.specs.declared.tree.BinaryOp.{BinaryOp as CoreOp}
 use Rattle.odc_core.specs.declared.tree.Comparison.{Comparison}
@@ -27,8 +25,8 @@ use Rattle.odc_core.specs.declared.tree.Comparison.TheVariants.{Equal}
 use Rattle.odc_carried.specs.Code.{variables_of, held, negated}
 use Rattle.odc_carried.specs.Carried.{type_in, is_int, is_bool, is_signed_shape, is_truth_shape}
 use Rattle.odc_carried.proofs.Runs.{Face, Runs}
-use Rattle.odc_carried.proofs.Values.{Val, val_int, zero_test}
-use Rattle.odc_carried.specs.Tied.{Site, o, env}
+use Rattle.odc_carried.proofs.Values.{Val, zero_test}
+use Rattle.odc_carried.specs.Tied.{Site, o}
 use Rattle.odc_carried.proofs.Frame.{WordAt, ev, r_const, r_held, r_binary, r_compare}
 
 -- ---- core expressions that change nothing

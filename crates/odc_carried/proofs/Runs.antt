@@ -6,7 +6,7 @@ use Rattle.std.proofs.Math.Nat.{add-zero}
 use Rattle.odc_text.specs.Run.{Log}
 use Rattle.odc_core.specs.declared.tree.Descriptor.{Descriptor}
 use Rattle.odc_core.specs.Memory.{Memory, all_in, loaded, put}
-use Rattle.odc_core.specs.Run.{State, Res, ok, Act, pure, then_by, ◌>>=◌, spend_from, spend, node, moved, charge, Env, need, remember, load_bytes, store_bytes, entry_to, write_bytes}
+use Rattle.odc_core.specs.Run.{State, Res, ok, Act, pure, then_by, ◌>>=◌, spend_from, spend, node, moved, Env, need, remember, load_bytes, store_bytes, entry_to, write_bytes}
 
 -- a state but for what is left of the bound, and the cost
 pub record Face : Type 0 where

@@ -1,5 +1,5 @@
 -- Parts of core runs told by memory and log, where the input stays.
-use Rattle.std.proofs.Common.{◌≡◌, ℕ, suc, ◌+◌, ◌*◌, ◌%◌, ◌^◌, ◌<◌, ◌≤◌, Bool, true, List, [], ◌∷◌, ◌++◌, length, map, arith}
+use Rattle.std.proofs.Common.{◌≡◌, ℕ, suc, ◌+◌, ◌%◌, ◌^◌, ◌<◌, ◌≤◌, true, List, [], ◌∷◌, ◌++◌, length, map}
 use Rattle.std.specs.Prelude.{Some, slice_get, ◌==◌, if◌then◌else◌}
 use Rattle.odc_text.specs.Run.{Log}
 use Rattle.odc_core.specs.declared.tree.Descriptor.{Descriptor}
@@ -14,7 +14,7 @@ use Rattle.odc_core.specs.Frames.{touched_in}
 use Rattle.odc_core.specs.Run.{Env, pure, node, moved, load_bytes, write_bytes, entry_to, ◌>>=◌, Flow, falls, leaves, turns}
 use Rattle.odc_carried.specs.Code.{variables_of, join, held}
 use Rattle.odc_carried.specs.Code.{put as set}
-use Rattle.odc_carried.specs.Tied.{Site, o, cenv}
+use Rattle.odc_carried.specs.Tied.{Site, o}
 use Rattle.odc_carried.proofs.Runs.{Face, Fueled}
 use Rattle.odc_carried.proofs.Runs.{Runs as Whole, runs_pure as w_pure, runs_as as w_as, runs_then as w_then, runs_node as w_node, runs_load as w_load, runs_write as w_write}
 use Rattle.odc_carried.proofs.Turns.{rest_of}

@@ -1,39 +1,37 @@
 -- Declarations, assignments and returns, as the source runs them.
-use Rattle.std.proofs.Common.{◌≡◌, ℕ, zero, suc, ◌+◌, ◌*◌, ◌^◌, ◌<◌, ◌≤◌, ◌⊎◌, inl, inr, Bool, true, false, List, [], ◌∷◌, length, map, arith, ap, ◌∙◌, sym, subst, refl, lit<, lit≤}
-use Rattle.std.specs.Prelude.{Option, Some, None, slice_get, ◌==◌, nat_le, if◌then◌else◌}
-use Rattle.std.proofs.lemmas.Bool.Decides.{nat_tests}
+use Rattle.std.proofs.Common.{◌≡◌, ℕ, zero, suc, ◌+◌, ◌*◌, ◌≤◌, ◌⊎◌, inl, inr, Bool, true, false, List, [], ◌∷◌, length, map, arith, ap, ◌∙◌, sym, subst, refl, lit<, lit≤}
+use Rattle.std.specs.Prelude.{Option, Some, None, if◌then◌else◌}
 use Rattle.std.proofs.lemmas.List.{length-map}
 use Rattle.std.proofs.Math.Nat.{add-zero}
 use Rattle.odc_text.specs.declared.place.Place.{Place}
 use Rattle.odc_text.specs.Run.{strayed}
 use Rattle.rv_table.specs.Bytes.{run}
-use Rattle.odc_program.specs.States.Bytes.{Block, variable, to, Value, zeros, bytes_of}
-use Rattle.odc_program.specs.States.Memory.{Memory, stretch, fits, load, store, put, open_block}
-use Rattle.odc_program.specs.States.Run.{Res, ok, stop, then_by, moved, ◌>>>◌, ◌>>=◌, pure}
-use Rattle.odc_program.specs.States.State.{State, Leave, ends, Do, Spot, spot, known, keep, write_to, begin_block, Context, Calls, local_in}
+use Rattle.odc_program.specs.States.Bytes.{Block, variable, to, Value, zeros}
+use Rattle.odc_program.specs.States.Memory.{stretch, fits, load, store, put, open_block}
+use Rattle.odc_program.specs.States.Run.{Res, ok, stop, then_by, moved}
+use Rattle.odc_program.specs.States.State.{State, Leave, ends, Do, spot, keep, write_to, begin_block, Context, Calls, local_in}
 use Rattle.odc_program.specs.Kinds.Expressions.{value_of, values_of}
-use Rattle.odc_program.specs.Runs.Statements.{Left, left_by, run_declare, run_assign, run_return, run_eval, begin_each, store_each, results_from}
+use Rattle.odc_program.specs.Runs.Statements.{Left, left_by, run_declare, run_assign, run_return, begin_each, store_each, results_from}
 use Rattle.odc_program.specs.Runs.Statements.{falls as left_falls, returns}
 use Rattle.odc_program.specs.Runs.Source.{rights_of, places_of}
 use Rattle.odc_program.specs.Trees.Tree.{Expr, expr, local, none, more, each, nothing, left_, no_lefts}
 use Rattle.odc_program.specs.Trees.Program.{Local}
-use Rattle.odc_core.specs.declared.tree.Variable.{Variable}
 use Rattle.odc_core.specs.Tree.{Expr as CoreExpr, const as word, answer as answered, Stmts, finish, follow}
-use Rattle.odc_core.specs.Words.{number_of as word_of, bytes_of as numbers_of}
-use Rattle.odc_core.specs.Run.{Flow, falls, leaves, answers, after, pure as done, then_by as onto}
+use Rattle.odc_core.specs.Words.{number_of as word_of}
+use Rattle.odc_core.specs.Run.{Flow, falls, answers, after, pure as done, then_by as onto}
 use Rattle.odc_carried.specs.Carried.{type_in}
 use Rattle.odc_carried.specs.Code.{join, one, held, put as set, put_code, return_code, before, value, variable_of, result_code}
 use Rattle.odc_carried.specs.Places.{place_of, bytes_at}
-use Rattle.odc_carried.specs.Tied.{Tied, size_of, Site, o, env, cenv}
-use Rattle.odc_carried.proofs.Runs.{Face, Runs, runs_pure, runs_then, runs_node}
-use Rattle.odc_carried.proofs.Sims.{rate, Told, Sim, seq, sim_runs, sim_first, sim_later, sim_richer, sim_result, then_then}
-use Rattle.odc_carried.proofs.Values.{Val, val_word, eight_bytes}
-use Rattle.odc_carried.proofs.Ties.{Facts, Now, Loaded, loaded_from, block, block_found, local_found}
+use Rattle.odc_carried.specs.Tied.{size_of, Site, o, env}
+use Rattle.odc_carried.proofs.Runs.{Face, runs_pure, runs_then, runs_node}
+use Rattle.odc_carried.proofs.Sims.{rate, Sim, sim_runs, sim_first, sim_later, sim_richer, sim_result, then_then}
+use Rattle.odc_carried.proofs.Values.{Val, eight_bytes}
+use Rattle.odc_carried.proofs.Ties.{Facts, Loaded, loaded_from, block, block_found, local_found}
 use Rattle.odc_carried.proofs.Writes.{name}
 use Rattle.odc_carried.proofs.Frame.{WordAt, local_variable, ev, ex1, ex, r_set, r_one}
-use Rattle.odc_carried.proofs.Quiet.{Quiet, quiet_const, quiet_held, costing, IntType}
-use Rattle.odc_carried.proofs.Codes.{Ready, Alike, ready_cost, Codes, rejoin, join_assoc}
-use Rattle.odc_carried.proofs.Stmts.{IntLocal, Results, own_size, Gave, Done, stored, opened, changed, set_sim, stays_above}
+use Rattle.odc_carried.proofs.Quiet.{Quiet, quiet_const, quiet_held, costing}
+use Rattle.odc_carried.proofs.Codes.{Ready, Alike, Codes}
+use Rattle.odc_carried.proofs.Stmts.{IntLocal, Results, Gave, Done, stored, opened, changed, set_sim, stays_above}
 use Rattle.odc_carried.proofs.Evals.{sane_bytes}
 use Rattle.odc_carried.proofs.Exprs.{then_same}
 

@@ -1,14 +1,14 @@
 -- A part of the source run and a part of the core run that does the same: the relation of their results, the world
 -- outside, the cost against a credit, and the bound against the turns that were taken.
-use Rattle.std.proofs.Common.{◌≡◌, ℕ, zero, suc, ◌+◌, ◌*◌, ◌≤◌, ◌⊎◌, inl, inr, List, map, arith, ap, ◌∙◌, sym, subst, refl}
+use Rattle.std.proofs.Common.{◌≡◌, ℕ, zero, suc, ◌+◌, ◌*◌, ◌≤◌, ◌⊎◌, inl, inr, map, arith, ap, ◌∙◌, sym, subst, refl}
 use Rattle.std.proofs.Math.Nat.{add-zero}
-use Rattle.odc_text.specs.Run.{End, exited, checked, strayed, trapped, going, Entry, entry_by, Log}
+use Rattle.odc_text.specs.Run.{End, exited, checked, strayed, trapped, going, Entry, entry_by}
 use Rattle.odc_program.specs.States.Bytes.{Pointer}
 use Rattle.odc_program.specs.States.Run.{Res, ok, stop, then_by}
 use Rattle.odc_program.specs.States.State.{State, Leave, ends, back, Do, turn, turn_from}
 use Rattle.odc_core.specs.Run.{State as CoreState, Res as CoreRes, ok as fine, stop as halt, Act as CoreAct, then_by as onto, ◌>>=◌}
 use Rattle.odc_carried.specs.Places.{address_at}
-use Rattle.odc_carried.proofs.Runs.{Face, at, with_memory, Fueled, as_told, Runs}
+use Rattle.odc_carried.proofs.Runs.{Face, at, Fueled, as_told, Runs}
 
 -- what a unit of the source's cost pays
 abbrev pub rate : ℕ

@@ -1,35 +1,29 @@
 -- Declarations, assignments and returns.
-use Rattle.std.proofs.Common.{◌≡◌, ℕ, zero, suc, ◌+◌, ◌*◌, ◌/◌, ◌%◌, ◌^◌, ◌<◌, ◌≤◌, ◌⊎◌, inl, inr, Bool, true, false, List, [], ◌∷◌, length, map, arith, ap, ◌∙◌, sym, subst, refl, lit<, lit≤}
-use Rattle.std.specs.Prelude.{Option, Some, None, slice_get, ◌==◌, nat_le, if◌then◌else◌}
-use Rattle.std.proofs.lemmas.Bool.Decides.{nat_tests}
-use Rattle.std.proofs.lemmas.List.{length-map}
-use Rattle.odc_text.specs.declared.place.Place.{Place}
-use Rattle.rv_table.specs.Bytes.{run}
-use Rattle.odc_program.specs.States.Bytes.{Block, variable, to, Value, zeros, bytes_of}
-use Rattle.odc_program.specs.States.Memory.{Memory, fits, load, store, put, open_block, at_block}
-use Rattle.odc_program.specs.States.Run.{Res, ok, stop, then_by, moved}
-use Rattle.odc_program.specs.States.State.{State, Leave, Do, known, keep, write_to, Context, local_in}
-use Rattle.odc_program.specs.Runs.Statements.{Left, left_by}
-use Rattle.odc_program.specs.Runs.Statements.{Flow as LeftFlow, falls as left_falls, breaks, continues, passes, returns}
+use Rattle.std.proofs.Common.{◌≡◌, ℕ, zero, suc, ◌+◌, ◌/◌, ◌%◌, ◌<◌, ◌≤◌, inl, inr, true, List, [], ◌∷◌, length, arith, ap, ◌∙◌, sym, subst, refl}
+use Rattle.std.specs.Prelude.{Option, Some, None, slice_get}
+use Rattle.odc_program.specs.States.Bytes.{Block, variable, Value}
+use Rattle.odc_program.specs.States.Memory.{Memory, load, put, open_block, at_block}
+use Rattle.odc_program.specs.States.Run.{ok}
+use Rattle.odc_program.specs.States.State.{State, Context}
+use Rattle.odc_program.specs.Runs.Statements.{Left}
+use Rattle.odc_program.specs.Runs.Statements.{Flow as LeftFlow, falls as left_falls, returns}
 use Rattle.odc_program.specs.Trees.Program.{Local}
-use Rattle.odc_core.specs.declared.tree.Variable.{Variable}
-use Rattle.odc_core.specs.Tree.{Expr as CoreExpr, const as word, answer as answered, Stmts, finish, follow}
-use Rattle.odc_core.specs.Words.{number_of as word_of, bytes_of as numbers_of}
+use Rattle.odc_core.specs.Tree.{Expr as CoreExpr}
+use Rattle.odc_core.specs.Words.{bytes_of as numbers_of}
 use Rattle.odc_core.specs.Memory.{put as flat_put}
-use Rattle.odc_core.specs.Run.{Flow, falls, leaves, answers, after, pure, ◌>>=◌}
-use Rattle.odc_carried.specs.Carried.{is_int, is_int_local, names_int, type_in}
-use Rattle.odc_carried.specs.Code.{join, one, held, put as set, variable_of, result_code}
-use Rattle.odc_carried.specs.Places.{place_of, byte_at, bytes_at}
-use Rattle.odc_carried.specs.Tied.{Tied, IsTied, size_of, Site, o, cenv}
-use Rattle.odc_carried.proofs.Runs.{Face, with_memory, Runs, runs_pure, runs_then, runs_node}
-use Rattle.odc_carried.proofs.Sims.{rate, Told, Sim, sim_runs, sim_later, sim_richer, sim_result}
-use Rattle.odc_carried.proofs.Values.{Val, val_word, eight_bytes}
-use Rattle.odc_carried.proofs.Ties.{Facts, Now, Own, Loaded, loaded_from, block, local_found, block_found, at_self, at_other, same_tells, below_own, AreSane, serial_of}
+use Rattle.odc_core.specs.Run.{Flow, falls, answers}
+use Rattle.odc_carried.specs.Carried.{is_int_local, names_int}
+use Rattle.odc_carried.specs.Code.{one, put as set, variable_of}
+use Rattle.odc_carried.specs.Places.{byte_at, bytes_at}
+use Rattle.odc_carried.specs.Tied.{size_of, Site}
+use Rattle.odc_carried.proofs.Runs.{Face, with_memory, Runs}
+use Rattle.odc_carried.proofs.Sims.{Told, Sim, sim_runs}
+use Rattle.odc_carried.proofs.Values.{Val}
+use Rattle.odc_carried.proofs.Ties.{Facts, Now, block, at_self, at_other, same_tells, AreSane}
 use Rattle.odc_carried.proofs.Writes.{name, now_put, now_open}
-use Rattle.odc_carried.proofs.Frame.{WordAt, put_away, local_variable, ev, ex1, ex, r_set, r_one}
-use Rattle.odc_carried.proofs.Quiet.{Quiet, quiet_const, quiet_held, costing, IntType, int_type}
-use Rattle.odc_carried.proofs.Evals.{sane_bytes}
-use Rattle.odc_carried.proofs.Codes.{Ready, ready_cost}
+use Rattle.odc_carried.proofs.Frame.{put_away, local_variable, ex1, ex, r_set, r_one}
+use Rattle.odc_carried.proofs.Quiet.{Quiet, IntType, int_type}
+use Rattle.odc_carried.proofs.Codes.{Ready}
 
 -- a value of eight bytes has sane ones
 head_of : List ℕ → ℕ

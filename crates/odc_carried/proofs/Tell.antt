@@ -1,5 +1,5 @@
 -- The laws, from the lemmas.
-use Rattle.std.proofs.Common.{◌≡◌, ℕ, ◌+◌, ◌*◌, ◌≤◌, inl, inr, Bool, true, false, arith, ap, ◌∙◌, sym, refl, length}
+use Rattle.std.proofs.Common.{◌≡◌, ℕ, inl, inr, Bool, true, false, arith, ap, ◌∙◌, sym, refl, length}
 use Rattle.odc_program.specs.States.Bytes.{Value, truth_bytes}
 use Rattle.odc_program.specs.States.Run.{Res}
 use Rattle.odc_program.specs.States.State.{State, Leave}
@@ -7,7 +7,6 @@ use Rattle.odc_core.specs.Run.{State as CoreState}
 use Rattle.odc_core.specs.Tree.{Expr as CoreExpr}
 use Rattle.odc_core.specs.Words.{bytes_of}
 use Rattle.rv_table.specs.Words.{flag}
-use Rattle.odc_carried.specs.Carried.{refused_int}
 use Rattle.odc_carried.specs.Places.{bytes_at}
 use Rattle.odc_carried.specs.Tied.{Site}
 use Rattle.odc_carried.specs.Kept.{IsSame, QuietIntegers, QuietTruths}

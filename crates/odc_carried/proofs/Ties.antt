@@ -1,17 +1,15 @@
 -- Memory in an activation, on both sides.
-use Rattle.std.proofs.Common.{◌≡◌, ℕ, zero, suc, ◌+◌, ◌*◌, ◌^◌, ◌<◌, ◌≤◌, ◌⊎◌, inl, inr, Bool, true, false, List, [], ◌∷◌, ◌++◌, length, map, arith, ap, ◌∙◌, sym, subst, refl, get_or}
-use Rattle.std.specs.Prelude.{◌==◌, ◌&&◌, Option, Some, None, nat_le, nat_lt, max, slice_get, if◌then◌else◌}
+use Rattle.std.proofs.Common.{◌≡◌, ℕ, zero, suc, ◌+◌, ◌^◌, ◌<◌, ◌≤◌, ◌⊎◌, inl, inr, Bool, true, false, List, [], ◌∷◌, length, map, arith, ap, ◌∙◌, sym, subst, refl, get_or}
+use Rattle.std.specs.Prelude.{◌==◌, ◌&&◌, Option, Some, None, nat_le, nat_lt, slice_get, if◌then◌else◌}
 use Rattle.std.proofs.lemmas.Bool.Decides.{nat_tests}
 use Rattle.rv_table.specs.Bytes.{run, written as written_at}
-use Rattle.rv_table.proofs.Bytes.{written_out}
 use Rattle.odc_program.specs.States.Bytes.{Block, global, literal, region, variable, Byte, Value, same}
-use Rattle.odc_program.specs.States.Memory.{Memory, stretch, written, at_block, fits, load, store, put, open_block, is_of, close, is_literal, writable}
+use Rattle.odc_program.specs.States.Memory.{Memory, stretch, written, at_block, fits, load}
 use Rattle.odc_program.specs.States.State.{local_in}
-use Rattle.odc_program.specs.Trees.Program.{Local, Head, Tables, Body}
+use Rattle.odc_program.specs.Trees.Program.{Local, Tables}
 use Rattle.odc_core.specs.declared.tree.Variable.{Variable}
 use Rattle.odc_core.specs.Memory.{Memory as Flat}
-use Rattle.odc_core.specs.Memory.{put as flat_put}
-use Rattle.odc_carried.specs.Code.{Around, around, highest, own_low, rounded, locals_of, variable_of, wait_offset}
+use Rattle.odc_carried.specs.Code.{highest, locals_of, variable_of}
 use Rattle.odc_carried.specs.Places.{place_of, byte_at, bytes_at}
 use Rattle.odc_carried.specs.Tied.{IsTied, Tied, size_of, IsLaid, HasRoom, Site, o}
 

@@ -1,6 +1,6 @@
 -- Turns of a loop of core code, as parts of runs: the loop's fuel falls with its turns, the body's doesn't.
 use Rattle.std.proofs.Common.{◌≡◌, ℕ, suc, ◌+◌, ◌-◌, ◌<◌, ◌≤◌, arith, ap, ◌∙◌, refl}
-use Rattle.odc_core.specs.Run.{State, Res, then_by, Flow, falls, leaves, after_turn, turns}
+use Rattle.odc_core.specs.Run.{Res, then_by, Flow, falls, leaves, after_turn, turns}
 use Rattle.odc_carried.proofs.Runs.{Face, at, Fueled, as_told, Runs}
 
 -- what is left of a loop after so many turns

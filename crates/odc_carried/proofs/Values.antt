@@ -1,5 +1,5 @@
 -- Values of the source and words: what bytes are on the machine, and the operations on the integers that words are.
-use Rattle.std.proofs.Common.{◌≡◌, ℕ, zero, suc, ◌+◌, ◌-◌, ◌*◌, ◌/◌, ◌%◌, ◌^◌, ◌<◌, ◌≤◌, Bool, true, false, List, [], ◌∷◌, length, map, arith, ap, ◌∙◌, sym, subst, refl, lit<}
+use Rattle.std.proofs.Common.{◌≡◌, ℕ, zero, suc, ◌+◌, ◌-◌, ◌*◌, ◌/◌, ◌%◌, ◌^◌, ◌<◌, ◌≤◌, Bool, true, false, List, [], ◌∷◌, length, arith, ap, ◌∙◌, sym, subst, refl, lit<}
 use Rattle.std.specs.Prelude.{ℤ, pos, negsuc, ◌+ℤ◌, ◌-ℤ◌, ◌*ℤ◌, neg_ℤ, nat_abs, Option, Some, None, option_map, nat_lt, ◌==◌, int_div, int_rem, int_lt, not, ◌||◌, if◌then◌else◌}
 use Rattle.std.specs.Ordering.{int_eq}
 use Rattle.std.specs.Int.{w64, cast_signed, cast_unsigned, int_wrap}
@@ -9,9 +9,9 @@ use Rattle.std.proofs.lemmas.Bool.Decides.{nat_tests, Decides-int_eq}
 use Rattle.std.specs.Cmp.{unsigned_Decides}
 use Rattle.std.specs.Bool.{one_answer}
 use Rattle.rv_table.specs.Words.{plus, minus, quotient, remainder, signed_below}
-use Rattle.odc_program.specs.States.Bytes.{Byte, number, of_address, of_procedure, Value, bytes_of, number_of, after_byte, residue, int_bytes, signed_of, int_of}
+use Rattle.odc_program.specs.States.Bytes.{number, of_address, of_procedure, Value, bytes_of, number_of, after_byte, residue, signed_of, int_of}
 use Rattle.odc_core.specs.Words.{number_of as word_of, bytes_of as numbers_of}
-use Rattle.odc_carried.specs.Places.{byte_at, bytes_at}
+use Rattle.odc_carried.specs.Places.{bytes_at}
 
 -- ---- signs
 pub signed_low : (w : ℕ) → w < 2 ^ 63 → cast_signed w64 w ≡ pos w

@@ -1,9 +1,8 @@
 -- Variables that begin or get another value, and activations that begin and end.
-use Rattle.std.proofs.Common.{◌≡◌, ℕ, zero, suc, ◌+◌, ◌*◌, ◌^◌, ◌<◌, ◌≤◌, ◌⊎◌, inl, inr, Bool, true, false, List, [], ◌∷◌, length, map, arith, ap, ◌∙◌, sym, subst, refl}
-use Rattle.std.specs.Prelude.{◌==◌, Option, Some, None, nat_lt, slice_get, if◌then◌else◌}
+use Rattle.std.proofs.Common.{◌≡◌, ℕ, ◌+◌, ◌<◌, ◌≤◌, ◌⊎◌, inl, inr, Bool, true, false, length, map, arith, ap, ◌∙◌, sym, subst, refl}
+use Rattle.std.specs.Prelude.{Option, Some, None, nat_lt, slice_get, if◌then◌else◌}
 use Rattle.std.proofs.lemmas.Bool.Decides.{nat_tests}
 use Rattle.std.proofs.lemmas.List.{length-map}
-use Rattle.std.proofs.Math.Nat.{add-zero}
 use Rattle.rv_table.specs.Bytes.{written as written_at}
 use Rattle.rv_table.proofs.Bytes.{written_out}
 use Rattle.odc_program.specs.States.Bytes.{Block, global, literal, region, variable, Byte, Value, same}

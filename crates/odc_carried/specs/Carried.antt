@@ -1,6 +1,6 @@
 -- Which programs the road to core code carries, by form, and the first node that it doesn't carry. The order is that of
 -- the program: procedure after procedure, statement after statement, each before its parts.
-use Rattle.std.specs.Prelude.{ℕ, ◌+◌, ◌^◌, ◌==◌, ◌&&◌, ◌||◌, not, Bool, true, false, nat_le, nat_lt, List, [], ◌∷◌, take, length, get_or, Option, Some, None, slice_get}
+use Rattle.std.specs.Prelude.{ℕ, ◌+◌, ◌^◌, ◌==◌, ◌&&◌, ◌||◌, not, Bool, true, false, nat_le, List, [], ◌∷◌, take, length, get_or, Option, Some, None, slice_get}
 use Rattle.odc_text.specs.declared.place.Place.{Place}
 use Rattle.odc_types.specs.Widths.{is_signed}
 use Rattle.odc_program.specs.declared.ops.Constant.{Constant}
@@ -9,7 +9,6 @@ use Rattle.odc_program.specs.declared.ops.UnaryOp.{UnaryOp}
 use Rattle.odc_program.specs.declared.ops.UnaryOp.TheVariants as un
 use Rattle.odc_program.specs.declared.ops.BinaryOp.{BinaryOp}
 use Rattle.odc_program.specs.declared.ops.BinaryOp.TheVariants as op
-use Rattle.odc_program.specs.declared.ops.Builtin.{Builtin}
 use Rattle.odc_program.specs.declared.ops.Builtin.TheVariants as b
 use Rattle.odc_program.specs.States.Bytes.{residue}
 use Rattle.odc_program.specs.Trees.Tree.{Expr, expr, Kind, const, local, call, builtin, unary, binary, Exprs, none, more, Maybe, absent, present, Lefts, no_lefts, left_, Rights, nothing, each, Stmt, stmt, Form, declare, assign, eval, block, if_, loop, return, MaybeStmt, no_stmt, some_stmt, Stmts, finish, follow}

@@ -1,7 +1,7 @@
 -- The core code of a carried program. A variable of a procedure lies where the program says. Behind the last one lie the
 -- variables of the compiler's own: a buffer of printed bytes, the place of its first byte in use, the number that is
 -- printed, and the values that wait.
-use Rattle.std.specs.Prelude.{ℕ, zero, suc, ◌+◌, ◌*◌, ◌/◌, ◌^◌, max, Bool, true, false, List, [], ◌∷◌, ◌++◌, map, get_or, length, Option, Some, None}
+use Rattle.std.specs.Prelude.{ℕ, zero, suc, ◌+◌, ◌*◌, ◌/◌, ◌^◌, max, Bool, true, false, List, [], ◌∷◌, ◌++◌, map, get_or, length, Option, Some}
 use Rattle.odc_text.specs.declared.place.Place.{Place}
 use Rattle.odc_text.specs.declared.check.Check.TheVariants.{Division}
 use Rattle.odc_program.specs.declared.ops.Constant.{Constant}
@@ -10,19 +10,17 @@ use Rattle.odc_program.specs.declared.ops.UnaryOp.{UnaryOp}
 use Rattle.odc_program.specs.declared.ops.UnaryOp.TheVariants as un
 use Rattle.odc_program.specs.declared.ops.BinaryOp.{BinaryOp}
 use Rattle.odc_program.specs.declared.ops.BinaryOp.TheVariants as op
-use Rattle.odc_program.specs.declared.ops.Builtin.{Builtin}
-use Rattle.odc_program.specs.declared.ops.Builtin.TheVariants as b
 use Rattle.odc_program.specs.States.Bytes.{residue}
 use Rattle.odc_program.specs.Trees.Tree.{Expr, expr, Kind, const, local, call, builtin, unary, binary, Exprs, none, more, Maybe, absent, present, Lefts, no_lefts, left_, Rights, nothing, each, Stmt, stmt, Form, declare, assign, eval, block, if_, loop, return, MaybeStmt, no_stmt, some_stmt, Stmts, finish, follow}
-use Rattle.odc_program.specs.Trees.Program.{Local, Head, Literal, Tables, Body, Program}
+use Rattle.odc_program.specs.Trees.Program.{Local, Head, Tables, Body, Program}
 use Rattle.odc_core.specs.declared.tree.Width.TheVariants.{Byte, Double}
 use Rattle.odc_core.specs.declared.tree.BinaryOp.TheVariants.{Add, Subtract, Multiply, Divide, Remainder, DivideUnsigned, RemainderUnsigned}
 use Rattle.odc_core.specs.declared.tree.Comparison.TheVariants.{Equal, Different, Less}
 use Rattle.odc_core.specs.declared.tree.Descriptor.TheVariants.{Out}
 use Rattle.odc_core.specs.declared.tree.Variable.{Variable}
 use Rattle.odc_core.specs.Tree.{Expr as CoreExpr, const as word, slot, load, binary as operated, compare, call as called, Exprs as CoreExprs, none as no_more, more as another}
-use Rattle.odc_core.specs.Tree.{Stmt as CoreStmt, eval as skip, store, choose as branch, repeat as turns, leave, answer as answered, check, write, Stmts as CoreStmts, finish as done, follow as then, Proc as CoreProc, Whole as CoreWhole}
-use Rattle.odc_carried.specs.Carried.{type_in, needed, checks, is_loud, is_any_loud, count}
+use Rattle.odc_core.specs.Tree.{Stmt as CoreStmt, store, choose as branch, repeat as turns, leave, answer as answered, check, write, Stmts as CoreStmts, finish as done, follow as then, Proc as CoreProc, Whole as CoreWhole}
+use Rattle.odc_carried.specs.Carried.{type_in, checks, is_loud, is_any_loud, count}
 
 -- ---- lists of statements
 abbrev pub join : CoreStmts → CoreStmts → CoreStmts

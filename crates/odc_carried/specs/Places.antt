@@ -1,5 +1,5 @@
 -- Where the blocks of the source lie, and what their bytes are there.
-use Rattle.std.specs.Prelude.{ℕ, ◌+◌, ◌/◌, ◌%◌, ◌^◌, List, [], ◌∷◌, map}
+use Rattle.std.specs.Prelude.{ℕ, ◌+◌, ◌/◌, ◌%◌, ◌^◌, List, map}
 use Rattle.odc_program.specs.States.Bytes.{Block, global, literal, region, variable, Pointer, nil, to, Byte, number, of_address, of_procedure, Value}
 
 abbrev pub place_of : Block → ℕ

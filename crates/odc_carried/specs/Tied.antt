@@ -1,5 +1,5 @@
 -- How the memory of the source run and that of the core run are tied, and what an activation is on both sides.
-use Rattle.std.specs.Prelude.{◌≡◌, ◌⊎◌, ℕ, Bool, ◌+◌, ◌*◌, ◌<◌, ◌≤◌, List, Option, Some, slice_get}
+use Rattle.std.specs.Prelude.{◌≡◌, ◌⊎◌, ℕ, Bool, ◌+◌, ◌*◌, ◌<◌, ◌≤◌, Some, slice_get}
 use Rattle.odc_program.specs.States.Bytes.{Block, variable, global, literal, region}
 use Rattle.odc_program.specs.States.Memory.{Memory}
 use Rattle.odc_program.specs.States.State.{Context}
