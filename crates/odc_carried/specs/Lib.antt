@@ -3,3 +3,4 @@ pub mod Code
 pub mod Places
 pub mod Tied
 pub mod Kept
+pub mod Crossing
