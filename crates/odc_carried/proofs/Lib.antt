@@ -28,3 +28,4 @@ pub mod Printing
 pub mod Print
 pub mod Lines
 pub mod Prints
+pub mod Whole

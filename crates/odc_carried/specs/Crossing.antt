@@ -1,5 +1,5 @@
 -- Which programs cross to core code, and what their core code promises.
-use Rattle.std.specs.Prelude.{◌≡◌, ℕ, ◌^◌, ◌≤◌, Bool, true, List, [], ◌∷◌}
+use Rattle.std.specs.Prelude.{◌≡◌, ℕ, ◌^◌, ◌≤◌, true, List, [], ◌∷◌}
 use Rattle.odc_text.specs.Run.{entry_by}
 use Rattle.odc_text.specs.Follow.{KeepsOn, NeverStrays}
 use Rattle.odc_program.specs.Trees.Program.{Head, Program}
