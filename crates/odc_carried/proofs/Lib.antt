@@ -29,3 +29,5 @@ pub mod Print
 pub mod Lines
 pub mod Prints
 pub mod Whole
+pub mod Rooms
+pub mod Crossings
