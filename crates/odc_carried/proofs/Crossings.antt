@@ -9,7 +9,7 @@ use Rattle.odc_program.specs.Typing.Well.{well_procedures, well_tables, outer_he
 use Rattle.odc_program.specs.Typing.WellTypes.{is_there}
 use Rattle.odc_program.specs.Runs.Source.{env_of}
 use Rattle.odc_carried.specs.Carried.{refused_procedure, refused_procedures, is_none}
-use Rattle.odc_carried.specs.Crossing.{CanCross, AreKept, NeverAstray}
+use Rattle.odc_carried.specs.Crossing.{CanCross, AreWell, AreKept}
 use Rattle.odc_carried.proofs.Quiet.{and_true}
 use Rattle.odc_carried.proofs.Evals.{passed_both}
 use Rattle.odc_carried.proofs.Calls.{AllGood}
@@ -89,8 +89,8 @@ module _ (P : Program) (can : CanCross P) where
           let b = body_at P.tables P.tables.procedures P.bodies can.framed P.main p e in
           record { p = p; q = b.0; found = e; body = b.1; empty = grind (arith, nat_tests); silent = grind (arith, nat_tests) }
 
--- where no program strays, each is kept
-pub kept : NeverAstray → AreKept
-kept never P can entries input =
+-- where the core code of each program is well, it keeps its run
+pub kept : AreWell → AreKept
+kept well P can entries input =
     let m : Main P can = main P can in
-    keeps entries P (all_good P can) m.p m.q m.found m.body m.empty input (never P can input)
+    keeps entries P (all_good P can) (well P can) m.p m.q m.found m.body m.empty input

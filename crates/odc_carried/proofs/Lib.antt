@@ -31,3 +31,4 @@ pub mod Prints
 pub mod Whole
 pub mod Rooms
 pub mod Crossings
+pub mod Starved
