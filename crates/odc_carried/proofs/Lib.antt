@@ -32,3 +32,7 @@ pub mod Whole
 pub mod Rooms
 pub mod Crossings
 pub mod Starved
+pub mod Laid
+pub mod Wells
+pub mod StmtWells
+pub mod ProcWells

@@ -16,7 +16,7 @@ use Rattle.odc_carried.proofs.Quiet.{and_true}
 
 -- ---- locals one behind another
 module _ (tables : Tables) (p : Head) where
-  abbrev env : Env
+  abbrev pub env : Env
   env = env_of tables p 0 0 0 None
 
   -- how many bytes locals take, with eight behind each
@@ -24,7 +24,7 @@ module _ (tables : Tables) (p : Head) where
   taken [] = 0
   taken (l ∷ ls) = rounded (size_of tables l) + 8 + taken ls
 
-  placed_here : (at : ℕ) (l : Local) (ls : List Local) → placed env at (l ∷ ls) ≡ true → (l.place ≡ at) × (placed env (at + rounded (size_of tables l) + 8) ls ≡ true)
+  pub placed_here : (at : ℕ) (l : Local) (ls : List Local) → placed env at (l ∷ ls) ≡ true → (l.place ≡ at) × (placed env (at + rounded (size_of tables l) + 8) ls ≡ true)
   placed_here at l ls e =
       let both = and_true (l.place == at) (placed env (at + rounded (size_of tables l) + 8) ls) e in
       let here : (l.place == at) ≡ true = both.0 in

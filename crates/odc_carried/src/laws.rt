@@ -1,5 +1,6 @@
 //! Laws of the step to core code, as contracts of calls that do nothing.
 
+ghost use Rattle.odc_carried.specs.Crossing.{AreWell, AreKept};
 ghost use Rattle.odc_carried.specs.Kept.{QuietIntegers, QuietTruths};
 
 /// Where an integer expression holds no call and no check, the core expression gives its word.
@@ -10,4 +11,15 @@ pub fn quiet_integers()
 /// And so does the one of a condition, whose word is 0 or 1.
 pub fn quiet_truths()
     ensures { QuietTruths }
+{}
+
+/// The core code of a program that can cross is well.
+pub fn core_code_is_well()
+    ensures { AreWell }
+{}
+
+/// And its run keeps the source run, on every input and whatever the words of the procedures, at 64 times its cost and
+/// a little more.
+pub fn core_code_keeps()
+    ensures { AreKept }
 {}
