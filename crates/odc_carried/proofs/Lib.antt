@@ -36,3 +36,4 @@ pub mod Laid
 pub mod Wells
 pub mod StmtWells
 pub mod ProcWells
+pub mod steady

@@ -1,6 +1,6 @@
 //! Laws of the step to core code, as contracts of calls that do nothing.
 
-ghost use Rattle.odc_carried.specs.Crossing.{AreWell, AreKept};
+ghost use Rattle.odc_carried.specs.Crossing.{AreWell, AreKept, NeverAstray};
 ghost use Rattle.odc_carried.specs.Kept.{QuietIntegers, QuietTruths};
 
 /// Where an integer expression holds no call and no check, the core expression gives its word.
@@ -22,4 +22,9 @@ pub fn core_code_is_well()
 /// a little more.
 pub fn core_code_keeps()
     ensures { AreKept }
+{}
+
+/// The source run of a carried program that is well strays on no input.
+pub fn carried_programs_never_stray()
+    ensures { NeverAstray }
 {}
