@@ -58,22 +58,22 @@ module _ (tables : Tables) (p : Head) where
   behind at (z ∷ ls) e (suc x) (suc y) l k less found other =
       behind (at + rounded (size_of tables z) + 8) ls (placed_here at z ls e).1 x y l k (omega (arith, less)) found other
 
-  highest_at : (at : ℕ) (ls : List Local) → 128 ≤ at → placed env at ls ≡ true → highest (map (variable_of tables) ls) ≤ at + taken ls
+  pub highest_at : (at : ℕ) (ls : List Local) → 128 ≤ at → placed env at ls ≡ true → highest (map (variable_of tables) ls) ≤ at + taken ls
   highest_at at [] low e = omega (arith, low)
   highest_at at (l ∷ ls) low e =
       let here = placed_here at l ls e in
       let rest : highest (map (variable_of tables) ls) ≤ at + rounded (size_of tables l) + 8 + taken ls = highest_at (at + rounded (size_of tables l) + 8) ls (omega (arith, low)) here.1 in
       omega (arith, here.0, rest)
 
-  taken_small : (ls : List Local) → taken ls ≤ variable_bytes env ls
+  pub taken_small : (ls : List Local) → taken ls ≤ variable_bytes env ls
   taken_small [] = lit≤ tt
   taken_small (l ∷ ls) = let rest : taken ls ≤ variable_bytes env ls = taken_small ls in omega (arith, rest)
 
   -- ---- a node has 128 bytes, and a value that waits needs 16
-  abbrev w : Bool → ℕ → ℕ
+  abbrev pub w : Bool → ℕ → ℕ
   w = node_bytes env
 
-  node_large : (a : Bool) (t : ℕ) → 128 ≤ w a t
+  pub node_large : (a : Bool) (t : ℕ) → 128 ≤ w a t
   node_large true t = lit≤ tt
   node_large false t = omega arith
 
@@ -250,7 +250,7 @@ module _ (tables : Tables) (p : Head) where
     pub are_placed : placed env 128 p.locals ≡ true
     are_placed = (and_true (p.frame == frame_of env p q.stmts) (placed env 128 p.locals) framed).1
 
-    frame_large : 256 + (variable_bytes env p.locals + stmts_weight w 128 q.stmts) ≤ p.frame
+    pub frame_large : 256 + (variable_bytes env p.locals + stmts_weight w 128 q.stmts) ≤ p.frame
     frame_large = let e : p.frame ≡ frame_of env p q.stmts = frame_is in omega (arith, e)
 
     pub is_laid : IsLaid tables p

@@ -15,7 +15,7 @@ use Rattle.odc_carried.proofs.Evals.{passed, passed_both}
 use Rattle.odc_carried.proofs.Quiet.{and_true}
 use Rattle.odc_carried.proofs.Wells.{Around_is, int_fine, ints_fine, truth_fine, call_fine, local_fine, local_there, join_are, line_are, value_is, before_are, before_kind_are, waits_are}
 
-or_true : (a b : Bool) → (a || b) ≡ true → (a ≡ true) ⊎ (b ≡ true)
+pub or_true : (a b : Bool) → (a || b) ≡ true → (a ≡ true) ⊎ (b ≡ true)
 or_true true b e = inl refl
 or_true false b e = inr e
 

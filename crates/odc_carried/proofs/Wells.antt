@@ -405,7 +405,7 @@ module _ (tables : Tables) (p : Head) (o : Around) (N : Names) (is : Around_is t
       by both e = let r : d + depth_by both a b ≤ o.waiting = subst (λ (y : Way). d + depth_by y a b ≤ o.waiting) e room in else_ both e (omega (arith, r)) r
       by either e = let r : d + depth_by either a b ≤ o.waiting = subst (λ (y : Way). d + depth_by y a b ≤ o.waiting) e room in else_ either e (omega (arith, r)) r
 
-  counted : (d : ℕ) (es : Exprs) → core_count (values o d es) ≡ count es
+  pub counted : (d : ℕ) (es : Exprs) → core_count (values o d es) ≡ count es
   counted d none = refl
   counted d (more e es) = by (is_any_loud es) (counted (d + 1) es) (counted d es)
     where
