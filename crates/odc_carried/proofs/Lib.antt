@@ -30,6 +30,8 @@ pub mod Lines
 pub mod Prints
 pub mod Whole
 pub mod Rooms
+-- what the functions append, and what that is
+pub mod emitting
 pub mod Crossings
 pub mod Starved
 pub mod Laid

@@ -4,3 +4,7 @@ pub mod Places
 pub mod Tied
 pub mod Kept
 pub mod Crossing
+pub mod View
+pub mod WayView
+pub mod Single
+pub mod TableView

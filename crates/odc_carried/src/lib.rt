@@ -4,4 +4,15 @@
 //! check becomes one core expression.
 #![tactic(auto)]
 
+mod around;
+pub mod cross;
+mod expression;
 pub mod laws;
+mod line;
+mod measure;
+mod operands;
+mod pieces;
+mod procedure;
+mod single;
+mod statement;
+mod tables;

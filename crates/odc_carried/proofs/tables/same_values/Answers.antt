@@ -1,0 +1,6 @@
+use Rattle.std.proofs.Common.{sym}
+use Rattle.odc_carried.proofs.emitting.Lists.{values_differ}
+use Rattle.odc_carried.proofs.tables.same_values.Goals as goal
+
+pub returns-then-a-b : goal.returns-then-a-b
+returns-then-a-b c = sym (values_differ c.args.a.now c.args.b.now c.if-a-b.true)
