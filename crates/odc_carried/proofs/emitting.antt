@@ -5,3 +5,4 @@ pub mod Sources
 pub mod Operands
 pub mod Forms
 pub mod Lists
+pub mod Refusals

@@ -8,3 +8,4 @@ pub mod View
 pub mod WayView
 pub mod Single
 pub mod TableView
+pub mod Refusal

@@ -13,6 +13,7 @@ mod measure;
 mod operands;
 mod pieces;
 mod procedure;
+pub mod refused;
 mod single;
 mod statement;
 mod tables;
