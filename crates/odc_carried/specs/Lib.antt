@@ -9,3 +9,4 @@ pub mod WayView
 pub mod Single
 pub mod TableView
 pub mod Refusal
+pub mod Promised

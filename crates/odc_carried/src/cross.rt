@@ -4,7 +4,10 @@ ghost use Rattle.std.specs.Prelude.{◌≡◌, map, IfOk};
 ghost use Rattle.odc_program.specs.Views.Instances.{procedure};
 ghost use Rattle.odc_program.specs.Views.ProgramView.{program, head};
 ghost use Rattle.odc_core.specs.View.{proc as core_proc, program as core_program};
+ghost use Rattle.odc_core.specs.Well.{IsWell};
 ghost use Rattle.odc_carried.specs.Code.{crossed_all, crossed_program};
+ghost use Rattle.odc_carried.specs.Crossing.{CanCross};
+ghost use Rattle.odc_carried.specs.Promised.{IsKept};
 ghost use Rattle.odc_carried.specs.TableView.{typed};
 
 use crate::procedure::cross_procedure;
@@ -39,11 +42,14 @@ fn copied_paths(alloc: Global, paths: &[PathText]) -> Result<Vec<PathText>, Allo
     Ok(copies)
 }
 
-/// The core code of a carried program: a procedure for each, in order, with nothing in the store. It fails where memory is
-/// short, and where a number of the code, as a position in a frame, is none of a `u32`.
+/// The core code of a carried program: a procedure for each, in order, with nothing in the store. Of a program that can
+/// cross it is well, and its run keeps the source run. It fails where memory is short, and where a number of the code, as a
+/// position in a frame, is none of a `u32`.
 pub fn cross(alloc: Global, p: &Program) -> Result<CoreProgram, AllocError>
     ensures exact { IfOk result (λ q. core_program q ≡ crossed_program (program p.now)) }
     ensures paths { IfOk result (λ q. q.paths.items ≡ p.now.paths.items) }
+    ensures well { CanCross (program p.now) → IfOk result (λ q. IsWell (core_program q)) }
+    ensures kept { CanCross (program p.now) → IfOk result (λ q. IsKept (program p.now) (core_program q)) }
 {
     let procedures = cross_procedures(alloc, &p.types, &p.procedures)?;
     let paths = copied_paths(alloc, &p.paths)?;
