@@ -1,2 +1,2 @@
-mod Elements
+pub mod Elements
 mod Cases

@@ -1,12 +1,15 @@
+use odc_limits::frame::{Variables, frame, nodes};
+use odc_limits::places::place_variables;
 use odc_program::ops::{BinaryOp, Constant};
+use odc_program::program::{Local, TypeKind, TypeRow};
 use odc_program::tree::{BuildPart, Case, CaseItem, TExpr, TExprKind, TStmt, TStmtKind};
 use odc_text::place::{FileId, Place};
 use odc_typed_tree::copy_expr::{copy_expr, copy_exprs};
 use odc_typed_tree::copy_stmt::copy_stmt;
-use odc_typed_tree::discard::{discard_expr, discard_exprs, discard_stmt};
+use odc_typed_tree::discard::{discard_expr, discard_exprs, discard_stmt, discard_stmts};
 use odc_typed_tree::list::{push_case, push_expr, push_item, push_part, push_stmt};
 use odc_typed_tree::node::{expr_node, stmt_node};
-use odc_types::TyId;
+use odc_types::{TyId, Width};
 use std::alloc::{AllocError, Global};
 use std::test::Fail;
 
@@ -180,5 +183,49 @@ fn copies_a_statement(rt: HostRuntime) -> Result<(), Fail> {
     discard_stmt(s, ());
     discard_stmt(copy, ());
     assert!(rt; same);
+    Ok(())
+}
+
+fn int_row() -> TypeRow {
+    TypeRow {
+        size: 8,
+        align: 8,
+        base: int(),
+        name: None,
+        kind: TypeKind::Int(Width::Int),
+    }
+}
+
+#[test]
+fn sizes_a_frame(rt: HostRuntime) -> Result<(), Fail> {
+    let rows = [int_row()];
+    let local = [Local {
+        ty: int(),
+        place: 128,
+    }];
+    let variables = Variables {
+        params: &[],
+        results: &[],
+        locals: &local,
+    };
+    let s = choice(rt.alloc())?;
+    let body = push_stmt(Vec::new(rt.alloc()), s)?;
+    // the switch, its subject of three nodes, an item and a statement, and the variable
+    let count = nodes(&variables, body.as_slice());
+    let size = frame(&rows, &variables, body.as_slice());
+    discard_stmts(body, ());
+    assert!(rt; count == 7);
+    assert!(rt; size == Some(1232));
+    Ok(())
+}
+
+#[test]
+fn places_variables(rt: HostRuntime) -> Result<(), Fail> {
+    let rows = [int_row()];
+    let places = place_variables(rt.alloc(), &rows, 128, &[int(), int()])?;
+    assert!(rt; places.end == 160);
+    assert!(rt;
+        matches!(places.locals.as_slice(), [first, second] if first.place == 128 && second.place == 144)
+    );
     Ok(())
 }

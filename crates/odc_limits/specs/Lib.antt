@@ -1,0 +1,3 @@
+pub mod Sized
+pub mod Weighed
+pub mod Placed
